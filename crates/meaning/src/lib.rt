@@ -1,0 +1,1 @@
+// The meaning of sites, rules and queries: definitions in specs/, their laws in proofs/. It has no code.
