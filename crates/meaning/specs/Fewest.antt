@@ -42,7 +42,7 @@ pub data Way (s : Site) (g : Goal) : State → Path → Type 0 where
   home : {e : Expr} {u : ℕ} → Meets g u → Way s g (finished e whole u) []
   held : {e : Expr} {r : ℕ} {a : Axis} {K : Context} {u : ℕ} → Way s g (finished e (test r a K) u) []
   free : {x y : State} {p : Path} → Free s x y → Way s g y p → Way s g x p
-  by-step : {r : ℕ} {a : Axis} {l : Label} {K : Context} {k t u : ℕ} {p : Path} (m : ℕ) → Move s a l k t m u →
+  by-step : {r : ℕ} {a : Axis} {l : Label} {K : Context} {k t m u : ℕ} {p : Path} → Move s a l k t m u →
       Way s g (finished (step r a l) K u) p → Way s g (entered (step r a l) K t) (taken r k u ∷ p)
   by-test : {r : ℕ} {a : Axis} {x : Expr} {K : Context} {k t m u : ℕ} {p q : Path} → Move s a any k t m u →
       Way s g (entered x (test r a K) m) q →

@@ -7,4 +7,6 @@ pub mod Relation
 pub mod Path
 pub mod Shown
 pub mod Fewest
+pub mod Left
 pub mod Question
+pub mod Marks

@@ -58,8 +58,9 @@ pub record Stays (s : Site) (l : Label) (k t m u : ℕ) : Type 0 where
   pub passes : m ≡ t
   pub ends : u ≡ t
 
--- by triple number k the axis takes t to u past the middle m, which the label allows
-abbrev pub Move : Site → Axis → Label → ℕ → ℕ → ℕ → ℕ → Type 0
-Move s self l k t m u = Stays s l k t m u
-Move s (ahead d) l k t m u = Passes s d k t m u × Allows l m
-Move s (inverse d) l k t m u = Passes s d k u m t × Allows l m
+-- by triple number k the axis takes t to u past the middle m, which the label allows;
+-- an inverse axis takes the same pair backwards with the same middle
+pub data Move (s : Site) : Axis → Label → ℕ → ℕ → ℕ → ℕ → Type 0 where
+  staying : {l : Label} {k t m u : ℕ} → Stays s l k t m u → Move s self l k t m u
+  going : {d : Direction} {l : Label} {k t m u : ℕ} → Passes s d k t m u → Allows l m → Move s (ahead d) l k t m u
+  coming : {d : Direction} {l : Label} {k t m u : ℕ} → Passes s d k u m t → Allows l m → Move s (inverse d) l k t m u

@@ -1,0 +1,6 @@
+-- What is proved of the definitions in specs/.
+pub mod None
+pub mod Moves
+pub mod Exact
+pub mod Asked
+pub mod Marked
