@@ -2,19 +2,15 @@
 -- If a subexpression is asked at t and relates t to u, what follows it is asked at u.
 use Prim.Native.Nat.{ℕ}
 use mathlib.Core.Path.{_≡_, refl, sym, subst, ap}
-use mathlib.Core.Logic.{_⊎_, inl, inr, _↔_}
+use mathlib.Core.Logic.{inl, inr, _↔_}
 use Rattle.meaning.specs.Site.{Site}
 use Rattle.meaning.specs.Move.{Move, Axis, Label, any}
 use Rattle.meaning.specs.Expression.{Expr, step, tested, sequence, choice, star, last, Context, whole, test, first-of, second-of, one-of, other-of, round-of, plug}
-use Rattle.meaning.specs.Relation.{Plus, once, then, Rel, Holds}
+use Rattle.meaning.specs.Relation.{once, Holds}
 use Rattle.meaning.specs.Fewest.{State, entered, finished, Free, sequence-in, sequence-on, sequence-out, one-in, one-out, other-in, other-out, round-in, round-empty, round-again, round-out}
 use Rattle.meaning.specs.Question.{Question, question, Asks}
-use Rattle.meaning.specs.Marks.{Asked, Done, Here}
-
--- one round more
-pub plus-once : {A : Type 0} {R : A → A → Type 0} {x y z : A} → Plus R x y → R y z → Plus R x z
-plus-once (once p) q = then p (once q)
-plus-once (then p r) q = then p (plus-once r q)
+use Rattle.meaning.specs.Marks.{Asked, Here}
+use Rattle.meaning.proofs.Rounds.{plus-then-once}
 
 module _ (s : Site) (z : ℕ) where
   -- what costs no step leads from where the walk comes by to where it comes by
@@ -29,9 +25,9 @@ module _ (s : Site) (z : ℕ) where
   free-here round-in h = inl h
   free-here (round-empty {t = t} v) h = (t, h, inl (v, refl))
   free-here round-again (t, inl h, p) = inr (t, h, once p)
-  free-here round-again (t, inr (i, h, q), p) = inr (i, h, plus-once q p)
+  free-here round-again (t, inr (i, h, q), p) = inr (i, h, plus-then-once q p)
   free-here round-out (t, inl h, p) = (t, h, inr (once p))
-  free-here round-out (t, inr (i, h, q), p) = (i, h, inr (plus-once q p))
+  free-here round-out (t, inr (i, h, q), p) = (i, h, inr (plus-then-once q p))
 
   pub step-here : (r : ℕ) {a : Axis} {l : Label} (K : Context) {k t m u : ℕ} → Move s a l k t m u →
       Here s z (entered (step r a l) K t) → Here s z (finished (step r a l) K u)

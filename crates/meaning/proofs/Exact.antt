@@ -1,39 +1,21 @@
 -- Sound and closed makes exact: a table of numbers in which each number has its way, and none is larger than its
 -- neighbours allow, is the number table. No order of work enters, so the order is free.
-use Prim.Native.Nat.{ℕ, _+_, _<_, _≤_, min, suc}
-use mathlib.Core.Path.{_≡_, refl, sym, subst, _∙_}
-use mathlib.Core.List.{[], _∷_}
+use Prim.Native.Nat.{ℕ, _<_, _≤_, min}
+use mathlib.Core.Path.{_≡_, refl, sym}
+use mathlib.Core.List.{[]}
 use mathlib.Core.Logic.{_⊎_, inl, inr}
 use native.Mathlib.Omega.{arith}
 use native.Mathlib.Decide.{decLt}
 use lib.ListN.{length}
 use Rattle.meaning.specs.Limits.{terms, none}
 use Rattle.meaning.specs.Site.{Site, Within}
-use Rattle.meaning.specs.Expression.{Expr, step, tested, sequence, choice, star, last, Context, whole, test, first-of, second-of, one-of, other-of, round-of, plug}
+use Rattle.meaning.specs.Expression.{Expr, sequence, choice, star, last, Context, whole, test, first-of, second-of, one-of, other-of, round-of, plug}
 use Rattle.meaning.specs.Path.{Path}
-use Rattle.meaning.specs.Fewest.{Goal, State, entered, finished, Free, sequence-in, sequence-on, sequence-out, one-in, one-out, other-in, other-out, round-in, round-empty, round-again, round-out, Way, home, held, free, by-step, by-test, Fewest, attained, never, Numbers}
+use Rattle.meaning.specs.Fewest.{Goal, State, finished, Free, sequence-in, sequence-on, sequence-out, one-in, one-out, other-in, other-out, round-in, round-empty, round-again, round-out, Way, home, held, free, by-step, by-test, attained, never, Numbers}
 use Rattle.meaning.specs.Left.{Table, left, value, Near, Leads, Sound, Closed}
 use Rattle.meaning.proofs.None.{none-positive, near-self, near-min-first, near-min-second, min-either, home-met, home-meets}
+use Rattle.meaning.proofs.States.{Within-rule, free-within}
 use Rattle.meaning.proofs.Moves.{move-reaches, move-passes, among}
-
--- the state is one of the rule's, at one of the terms
-abbrev pub Within-rule : Expr → State → Type 0
-Within-rule rule (entered e K t) = (plug e K ≡ rule) × (t < terms)
-Within-rule rule (finished e K u) = (plug e K ≡ rule) × (u < terms)
-
--- what costs no step stays in the rule, and at the term
-pub free-within : (rule : Expr) {s : Site} {x y : State} → Free s x y → Within-rule rule x → Within-rule rule y
-free-within rule sequence-in w = w
-free-within rule sequence-on w = w
-free-within rule sequence-out w = w
-free-within rule one-in w = w
-free-within rule one-out w = w
-free-within rule other-in w = w
-free-within rule other-out w = w
-free-within rule round-in w = w
-free-within rule (round-empty v) w = w
-free-within rule round-again w = w
-free-within rule round-out w = w
 
 module _ {s : Site} {g : Goal} {rule : Expr} {n : Table} (closed : Closed s g rule n) where
   free-near : {x y : State} → Free s x y → Within-rule rule x → Near 0 (value n g x) (value n g y)
@@ -57,7 +39,7 @@ module _ {s : Site} {g : Goal} {rule : Expr} {n : Table} (closed : Closed s g ru
       (omega arith, omega arith)
   closed-least ok held w = (none-positive, omega arith)
   closed-least ok (free f v) w =
-      let i = closed-least ok v (free-within rule f w) in
+      let i = closed-least ok v (free-within f w) in
       let h = free-near f w (i .0) in
       (h .0, omega arith)
   closed-least ok (by-step {r} {a} {l} {K} {k} {t} {m} {u} v way) w =

@@ -1,8 +1,8 @@
 -- Justified and followed makes exact: a byte table whose marks are all asked, and in which what a mark asks is
 -- marked, marks just the questions; and its marked ends are just the ends.
 use Prim.Native.Nat.{ℕ, _<_}
-use mathlib.Core.Path.{_≡_, refl, sym, subst, ap}
-use mathlib.Core.Logic.{_⊎_, inl, inr, _↔_}
+use mathlib.Core.Path.{_≡_, refl, sym, subst}
+use mathlib.Core.Logic.{inl, inr, _↔_}
 use Rattle.meaning.specs.Limits.{terms}
 use Rattle.meaning.specs.Site.{Site, Within}
 use Rattle.meaning.specs.Expression.{Expr, step, tested, sequence, choice, star, last, Context, whole, test, first-of, second-of, one-of, other-of, round-of, plug}
@@ -10,7 +10,7 @@ use Rattle.meaning.specs.Relation.{Plus, once, then, Rel}
 use Rattle.meaning.specs.Left.{Table}
 use Rattle.meaning.specs.Question.{Question, question, Asks}
 use Rattle.meaning.specs.Marks.{Follows, Justified, Followed}
-use Rattle.meaning.proofs.Moves.{move-passes, move-reaches, related-reaches, rounds-reach, among}
+use Rattle.meaning.proofs.Moves.{move-passes, related-reaches, rounds-reach, among}
 use Rattle.meaning.proofs.Asked.{asked-question}
 
 module _ {s : Site} {z : ℕ} {rule : Expr} {m : Table} {ends : ℕ → ℕ} (ok : Within s) (f : Followed s z rule m ends) where

@@ -4,7 +4,7 @@ use Prim.Native.Nat.{ℕ, _<_}
 use mathlib.Core.Path.{_≡_, sym, subst, _∙_}
 use mathlib.Core.Logic.{_⊎_, inl, inr}
 use Rattle.meaning.specs.Limits.{terms}
-use Rattle.meaning.specs.Site.{Site, Voc, Mentioned, Within}
+use Rattle.meaning.specs.Site.{Site, Mentioned, Within}
 use Rattle.meaning.specs.Expression.{Expr, step, tested, sequence, choice, star}
 use Rattle.meaning.specs.Relation.{Plus, once, then, Rel}
 use Rattle.meaning.specs.Move.{Direction, next, edge, node, Axis, Label, Move, staying, going, coming, Passes}
@@ -25,6 +25,12 @@ module _ {s : Site} {k t m u : ℕ} where
   finish-mentioned edge p = record { number = k; below = p .below; stands = inr (inl (p .ends)) }
   finish-mentioned node p = record { number = k; below = p .below; stands = inr (inr (p .ends)) }
 
+-- a move by a triple from a term lands at one term
+pub move-lands : {s : Site} {a : Axis} {l : Label} {k t m n u v : ℕ} → Move s a l k t m u → Move s a l k t n v → u ≡ v
+move-lands (staying x) (staying y) = x .ends ∙ sym (y .ends)
+move-lands (going x h) (going y i) = x .ends ∙ sym (y .ends)
+move-lands (coming x h) (coming y i) = x .starts ∙ sym (y .starts)
+
 -- the term that a move reaches is where it began, or a term of the site
 pub move-reaches : {s : Site} {a : Axis} {l : Label} {k t m u : ℕ} → Move s a l k t m u → (u ≡ t) ⊎ Mentioned s u
 move-reaches (staying v) = inl (v .ends)
@@ -43,7 +49,7 @@ among w h (inl e) = subst (λ v. v < terms) (sym e) h
 among {u = u} w h (inr v) = w u v
 
 -- and so do two, one after the other
-on : {s : Site} {t v u : ℕ} → (v ≡ t) ⊎ Mentioned s v → (u ≡ v) ⊎ Mentioned s u → (u ≡ t) ⊎ Mentioned s u
+pub on : {s : Site} {t v u : ℕ} → (v ≡ t) ⊎ Mentioned s v → (u ≡ v) ⊎ Mentioned s u → (u ≡ t) ⊎ Mentioned s u
 on (inl d) (inl e) = inl (e ∙ d)
 on {s} {u = u} (inr w) (inl e) = inr (subst (Mentioned s) (sym e) w)
 on (inl d) (inr w) = inr w

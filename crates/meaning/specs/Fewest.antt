@@ -2,7 +2,7 @@
 -- One picture: a subexpression is entered at a term and finished at a term, and a way leads from there through its body.
 use Prim.Native.Nat.{ℕ, _<_, _≤_}
 use mathlib.Core.Path.{_≡_}
-use mathlib.Core.List.{List, [], _∷_}
+use mathlib.Core.List.{[], _∷_}
 use lib.ListN.{length}
 use Rattle.meaning.specs.Limits.{terms, none}
 use Rattle.meaning.specs.Site.{Site, Voc}

@@ -1,10 +1,9 @@
 -- Paths and what it is to conform (document 01, "Steps, bodies and paths").
 -- A run is told by configurations: the term where one stands, and the steps that are still to be taken.
-use Prim.Native.Nat.{ℕ, _<_}
+use Prim.Native.Nat.{ℕ}
 use mathlib.Core.Path.{_≡_}
 use mathlib.Core.List.{List, [], _∷_}
 use mathlib.Core.Logic.{_⊎_}
-use lib.ListN.{length}
 use Rattle.meaning.specs.Site.{Site, Voc}
 use Rattle.meaning.specs.Move.{Move, any}
 use Rattle.meaning.specs.Expression.{Expr, step, tested, sequence, choice, star}

@@ -5,9 +5,9 @@ use mathlib.Core.Path.{_≡_}
 use mathlib.Core.List.{List, [], _∷_, List·Memᴰ}
 use mathlib.Core.Logic.{_⊎_, _↔_}
 use lib.ListN.{length}
-use Rattle.meaning.specs.Site.{Site, Voc}
+use Rattle.meaning.specs.Site.{Site}
 use Rattle.meaning.specs.Move.{Move, any}
-use Rattle.meaning.specs.Expression.{Expr, step, tested, sequence, choice, star, last}
+use Rattle.meaning.specs.Expression.{Expr, step, tested, sequence, choice, star}
 use Rattle.meaning.specs.Relation.{Plus, Rel}
 
 pub record Question : Type 0 where

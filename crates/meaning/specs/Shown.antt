@@ -1,6 +1,6 @@
 -- The path that is shown: of the shortest the smallest (document 01, "Steps, bodies and paths").
 -- Paths are compared step by step, by record number and then by triple number.
-use Prim.Native.Nat.{ℕ, _<_, _≤_}
+use Prim.Native.Nat.{_<_, _≤_}
 use mathlib.Core.Path.{_≡_}
 use mathlib.Core.List.{_∷_}
 use mathlib.Core.Logic.{_⊎_}

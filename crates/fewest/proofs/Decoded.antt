@@ -1,0 +1,36 @@
+-- The two laws of numbers in byte pairs: what is read at a place, and what a store leaves.
+-- Above them no proof looks at a byte.
+use Prim.Native.Nat.{ℕ, suc, zero, _+_, _*_, _<_}
+use mathlib.Core.Path.{_≡_, refl, ap}
+use mathlib.Core.List.{List, [], _∷_}
+use native.Mathlib.Omega.{arith}
+use lib.ListN.{length, getD, set}
+use Rattle.fewest.specs.Pairs.{base, pairs}
+
+twice : (i : ℕ) → suc i + suc i ≡ suc (suc (i + i))
+twice i = omega arith
+
+odd : (i : ℕ) → suc i + suc i + 1 ≡ suc (suc (i + i + 1))
+odd i = omega arith
+
+pub pairs-at : (b : List ℕ) (i : ℕ) → i + i + 1 < length b → getD (pairs b) i 0 ≡ getD b (i + i) 0 * base + getD b (i + i + 1) 0
+unfolding pairs
+pairs-at [] i h = absurd (omega arith)
+pairs-at (x ∷ []) i h = absurd (omega arith)
+pairs-at (x ∷ (y ∷ b)) zero h = refl
+pairs-at (x ∷ (y ∷ b)) (suc i) h = rw (odd i, twice i) (pairs-at b i (omega arith))
+
+pub pairs-set : (b : List ℕ) (i x y : ℕ) → i + i + 1 < length b → pairs (set (set b (i + i) x) (i + i + 1) y) ≡ set (pairs b) i (x * base + y)
+unfolding pairs
+pairs-set [] i x y h = absurd (omega arith)
+pairs-set (u ∷ []) i x y h = absurd (omega arith)
+pairs-set (u ∷ (v ∷ b)) zero x y h = refl
+pairs-set (u ∷ (v ∷ b)) (suc i) x y h = rw (odd i, twice i) (ap (λ (l : List ℕ). (u * base + v) ∷ l) (pairs-set b i x y (omega arith)))
+
+-- half as many numbers as bytes
+pub pairs-long : (b : List ℕ) (i : ℕ) → i + i + 1 < length b → i < length (pairs b)
+unfolding pairs
+pairs-long [] i h = absurd (omega arith)
+pairs-long (x ∷ []) i h = absurd (omega arith)
+pairs-long (x ∷ (y ∷ b)) zero h = omega arith
+pairs-long (x ∷ (y ∷ b)) (suc i) h = let k = pairs-long b i (omega arith) in omega arith

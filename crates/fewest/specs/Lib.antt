@@ -1,0 +1,2 @@
+-- What the number table's functions promise.
+pub mod Pairs

@@ -1,0 +1,2 @@
+// The number table, worked on the lent bytes.
+pub mod pairs;
