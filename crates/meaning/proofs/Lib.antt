@@ -16,3 +16,9 @@ pub mod Marked
 pub mod Counting
 pub mod Ceiling
 pub mod Steps
+pub mod Listed
+pub mod Listing
+pub mod Reached
+pub mod Numbering
+pub mod Compute
+pub mod Depot
