@@ -1,0 +1,5 @@
+-- Document 01's records, read from bytes, and its numbered refusals.
+pub mod Refusals
+pub mod Bytes
+pub mod Sites
+pub mod Queries

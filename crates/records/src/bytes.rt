@@ -1,0 +1,34 @@
+// Numbers as they stand in the bytes of a record, and which of them are terms.
+ghost use mathlib.Core.Path.{_≡_};
+ghost use Prim.Native.Nat.{_+_, _<_};
+ghost use lib.Dec.{ltb};
+ghost use lib.ListN.{length, getD};
+ghost use Rattle.meaning.specs.Limits.{terms};
+ghost use Rattle.records.specs.Bytes.{base, number16};
+use crate::TERMS;
+
+// The base of bytes; how many terms there are is another number.
+const BASE: usize = 256;
+
+// The byte at a place, as a number.
+pub fn byte_at(s: &[u8], at: usize) -> usize
+    requires { ⌜ at < length (now s) ⌝ }
+    ensures { λ r. ⌜ (r ≡ getD (now (s .entry)) at 0) × (r < base) ⌝ }
+{
+    s[at] as usize
+}
+
+// The two bytes at a place, high byte first.
+pub fn number_at(s: &[u8], at: usize) -> usize
+    requires { ⌜ at + 1 < length (now s) ⌝ }
+    ensures { λ r. ⌜ r ≡ number16 (now (s .entry)) at ⌝ }
+{
+    byte_at(s, at) * BASE + byte_at(s, at + 1)
+}
+
+// The number is one of the terms.
+pub fn is_term(number: usize) -> bool
+    ensures { λ r. ⌜ r ≡ ltb number terms ⌝ }
+{
+    number < TERMS
+}

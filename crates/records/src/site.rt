@@ -1,0 +1,147 @@
+// Site records: one triple each, and a whole site checked record by record.
+ghost use mathlib.Core.Path.{_≡_};
+ghost use Prim.Native.Nat.{_+_, _*_, _≤_};
+ghost use lib.ListN.{length};
+ghost use Rattle.records.specs.Sites.{tripleWidth, tripleOf, inCode, allTerms, isAbove, inOrder, denial, siteRecordAt, finished, Checked};
+use crate::Reason;
+use crate::Refusal;
+use crate::TRIPLES;
+use crate::Triple;
+use crate::bytes::is_term;
+use crate::bytes::number_at;
+
+// A site record's first byte, and its length.
+pub const TRIPLE_KIND: u8 = 10;
+
+pub const TRIPLE_WIDTH: usize = 7;
+
+// What stands at a place of a site.
+pub enum SiteRecord {
+    Triple(Triple),
+    End,
+    Refused(Refusal),
+}
+
+// What a whole site is: so many triples, or refused.
+pub enum SiteAnswer {
+    Site(usize),
+    Refused(Refusal),
+}
+
+// The triple of the whole record that begins at a place.
+fn triple_from(site: &[u8], at: usize) -> Triple
+    requires { ⌜ at + tripleWidth ≤ length (now site) ⌝ }
+    ensures { λ r. ⌜ r ≡ inCode (tripleOf (now (site .entry)) at) ⌝ }
+{
+    let subject = number_at(site, at + 1);
+    let predicate = number_at(site, at + 3);
+    let object = number_at(site, at + 5);
+    Triple {
+        subject,
+        predicate,
+        object,
+    }
+}
+
+// Triple number k of a site that has so many.
+pub fn triple_at(site: &[u8], k: usize) -> Triple
+    requires { ⌜ (k + 1) * tripleWidth ≤ length (now site) ⌝ }
+    ensures { λ r. ⌜ r ≡ inCode (tripleOf (now (site .entry)) (k * tripleWidth)) ⌝ }
+{
+    triple_from(site, k * TRIPLE_WIDTH)
+}
+
+// Each of its numbers is a term.
+fn all_terms(x: Triple) -> bool
+    ensures { λ r. ⌜ r ≡ allTerms x ⌝ }
+{
+    if is_term(x.subject) {
+        if is_term(x.predicate) {
+            return is_term(x.object);
+        }
+    }
+    false
+}
+
+// It stands above another: the first number that differs is greater.
+fn is_above(x: Triple, y: Triple) -> bool
+    ensures { λ r. ⌜ r ≡ isAbove x y ⌝ }
+{
+    if x.subject != y.subject {
+        return y.subject < x.subject;
+    }
+    if x.predicate != y.predicate {
+        return y.predicate < x.predicate;
+    }
+    y.object < x.object
+}
+
+// The record is the first, or its triple stands above that of the record before.
+fn in_order(site: &[u8], at: usize, x: Triple) -> bool
+    requires { ⌜ at + tripleWidth ≤ length (now site) ⌝ }
+    ensures { λ r. ⌜ r ≡ inOrder (now (site .entry)) at x ⌝ }
+{
+    if at < TRIPLE_WIDTH {
+        return true;
+    }
+    is_above(x, triple_from(site, at - TRIPLE_WIDTH))
+}
+
+fn refused(reason: Reason, place: usize) -> SiteRecord
+    ensures { λ r. ⌜ r ≡ denial reason place ⌝ }
+{
+    SiteRecord::Refused(Refusal { reason, place })
+}
+
+// The record that begins at a place: its triple, the end, or the first of the refusals 4, 2, 3, 5 and 6 that holds.
+pub fn site_record(site: &[u8], at: usize) -> SiteRecord
+    ensures { λ r. ⌜ r ≡ siteRecordAt (now (site .entry)) at ⌝ }
+{
+    if site.len() <= at {
+        return SiteRecord::End;
+    }
+    let kind = site[at];
+    let left = site.len() - at;
+    if TRIPLES * TRIPLE_WIDTH <= at {
+        return refused(Reason::SiteLong, at);
+    }
+    if kind != TRIPLE_KIND {
+        return refused(Reason::SiteKind, at);
+    }
+    if left < TRIPLE_WIDTH {
+        return refused(Reason::SiteCut, at);
+    }
+    let x = triple_from(site, at);
+    if !all_terms(x) {
+        return refused(Reason::SiteTerm, at);
+    }
+    if !in_order(site, at, x) {
+        return refused(Reason::SiteOrder, at);
+    }
+    SiteRecord::Triple(x)
+}
+
+// The answer where reading stops after so many triples; at a triple it does not stop.
+fn finish(got: SiteRecord, count: usize) -> SiteAnswer
+    ensures { λ r. ⌜ r ≡ finished got count ⌝ }
+{
+    match got {
+        SiteRecord::Triple(_) => SiteAnswer::Site(count),
+        SiteRecord::End => SiteAnswer::Site(count),
+        SiteRecord::Refused(x) => SiteAnswer::Refused(x),
+    }
+}
+
+// All of a site: how many triples it has, or its first refusal.
+pub fn check_site(site: &[u8]) -> SiteAnswer
+    ensures { λ r. ⌜ Checked (now (site .entry)) r ⌝ }
+{
+    let mut count: usize = 0;
+    loop {
+        let got = site_record(site, count * TRIPLE_WIDTH);
+        let SiteRecord::Triple(_) = got else {
+            return finish(got, count);
+        };
+        count += 1;
+    }
+}
