@@ -4,11 +4,12 @@ use Prim.Native.Nat.{ℕ, _<_, _≤_}
 use mathlib.Core.Path.{_≡_}
 use mathlib.Core.Logic.{_≢_}
 use mathlib.Core.List.{List}
-use lib.ListN.{getD}
+use lib.ListN.{length, getD}
 use Rattle.meaning.specs.Limits.{records}
 use Rattle.meaning.specs.Site.{Site}
-use Rattle.meaning.specs.Expression.{Expr, sequence, choice, last, Context, whole, test, first-of, second-of, one-of, other-of, round-of, plug}
+use Rattle.meaning.specs.Expression.{Expr, sequence, choice, last, size, Context, whole, test, first-of, second-of, one-of, other-of, round-of, plug}
 use Rattle.meaning.specs.Fewest.{Goal}
+pub use Rattle.fewest.specs.declared.links.Links.{Links}
 
 -- how an expression stands: as the whole rule, as a test, as the first of a sequence, as what finishes with its parent
 -- (the second of a sequence, an operand of a choice), as the round of a star
@@ -47,11 +48,6 @@ upOf (other-of r a K) = r
 upOf (round-of r K) = r
 
 -- the three arrays: the parent's record and the role of each record, and the first operand's record of each join
-pub record Links : Type 0 where
-  pub up : List ℕ
-  pub role : List ℕ
-  pub first : List ℕ
-
 abbrev pub links : List ℕ → List ℕ → List ℕ → Links
 links up role first = record { up = up; role = role; first = first }
 
@@ -62,9 +58,10 @@ pub record Linked (rule : Expr) (L : Links) : Type 0 where
   pub sequences : (r : ℕ) (a b : Expr) (K : Context) → plug (sequence r a b) K ≡ rule → getD (L .first) r 0 ≡ last a
   pub choices : (r : ℕ) (a b : Expr) (K : Context) → plug (choice r a b) K ≡ rule → getD (L .first) r 0 ≡ last a
 
--- what keeps a walk up the links inside the records, and ends it
+-- what keeps a walk up the links inside the records, and ends it; each role is one of those above
 pub record Climbs (count : ℕ) (up role : List ℕ) : Type 0 where
   pub few : count ≤ records
+  pub known : (r : ℕ) → r < count → getD role r 0 ≤ as-round
   pub higher : (r : ℕ) → r < count → getD role r 0 ≢ as-whole → (r < getD up r 0) × (getD up r 0 < count)
 
 -- what a walk over a table is about: the site, the links and the goal

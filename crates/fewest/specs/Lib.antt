@@ -1,5 +1,10 @@
 -- What the number table's functions promise.
 pub mod Pairs
 pub mod Frame
+pub mod LinksOf
+pub mod Next
 pub mod Offer
+pub mod Bounded
+pub mod Table
 pub mod Sweep
+pub mod Work

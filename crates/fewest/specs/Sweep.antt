@@ -11,8 +11,9 @@ unfoldable pub sum : List ℕ → ℕ
 sum [] = 0
 sum (x ∷ xs) = x + sum xs
 
--- T′ is reached from T by R; `now` tells whether it or anything before it (`was`) changed; if nothing did, Q holds of T
-pub record Swept (R : List ℕ → List ℕ → Type 0) (Q : List ℕ → Type 0) (T T′ : List ℕ) (was now : Bool) : Type 0 where
+-- T′ is reached from T by R; `now` tells whether it or anything before it (`was`) changed; if nothing did, Q holds of T.
+-- μ falls with each change.
+pub record Swept {A : Type 0} (μ : A → ℕ) (R : A → A → Type 0) (Q : A → Type 0) (T T′ : A) (was now : Bool) : Type 0 where
   pub reached : R T T′
   pub still : now ≡ false → (was ≡ false) × (T′ ≡ T) × Q T
-  pub falls : now ≡ true → (was ≡ true) ⊎ (sum T′ < sum T)
+  pub falls : now ≡ true → (was ≡ true) ⊎ (μ T′ < μ T)

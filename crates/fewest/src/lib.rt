@@ -1,2 +1,13 @@
-// The number table, worked on the lent bytes.
-pub mod pairs;
+// The number table, worked on the lent bytes: entries are only ever lowered to what the table offers, and sweeps go on
+// until one changes nothing. The order of work is free; what it leaves is certified by the last sweep.
+pub mod pairs; // pairs.rt: numbers in byte pairs
+pub mod table; // table.rt: entries by record and term
+pub mod links; // links.rt: where each record's expression stands in the rule
+pub mod left; // left.rt: what is left once an expression is finished
+pub mod look; // look.rt: one look at one offer
+
+// Where the rule's own body may finish.
+pub enum Goal {
+    End(usize),
+    Anywhere,
+}

@@ -14,7 +14,7 @@ fn wide(x: u8) -> usize
 
 pub fn get(table: &[u8], i: usize) -> usize
     requires { ⌜ i + i + 1 < length (now table) ⌝ }
-    ensures { λ r. ⌜ r ≡ getD (pairs (now (table .entry))) i 0 ⌝ }
+    ensures { λ r. ⌜ (r ≡ getD (pairs (now (table .entry))) i 0) × (r < base * base) ⌝ }
 {
     let high = i + i;
     wide(table[high]) * BASE + wide(table[high + 1])

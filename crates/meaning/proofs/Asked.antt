@@ -1,15 +1,16 @@
 -- Asked by context is document 01's list of bullets, and the walk from the whole rule comes by just those states.
 -- If a subexpression is asked at t and relates t to u, what follows it is asked at u.
 use Prim.Native.Nat.{ℕ}
-use mathlib.Core.Path.{_≡_, refl, sym, subst, ap}
+use mathlib.Core.Path.{_≡_, refl, sym, subst, subst₂, ap}
 use mathlib.Core.Logic.{inl, inr, _↔_}
 use Rattle.meaning.specs.Site.{Site}
 use Rattle.meaning.specs.Move.{Move, Axis, Label, any}
-use Rattle.meaning.specs.Expression.{Expr, step, tested, sequence, choice, star, last, Context, whole, test, first-of, second-of, one-of, other-of, round-of, plug}
+use Rattle.meaning.specs.Expression.{Expr, step, tested, sequence, choice, star, last, Numbered, Context, whole, test, first-of, second-of, one-of, other-of, round-of, plug}
 use Rattle.meaning.specs.Relation.{once, Holds}
 use Rattle.meaning.specs.Fewest.{State, entered, finished, Free, sequence-in, sequence-on, sequence-out, one-in, one-out, other-in, other-out, round-in, round-empty, round-again, round-out}
 use Rattle.meaning.specs.Question.{Question, question, Asks}
 use Rattle.meaning.specs.Marks.{Asked, Here}
+use Rattle.meaning.proofs.Names.{one-node}
 use Rattle.meaning.proofs.Rounds.{plus-then-once}
 
 module _ (s : Site) (z : ℕ) where
@@ -88,3 +89,11 @@ module _ (s : Site) (z : ℕ) where
       back : Stands rule q → Asks s rule z q
       back (e, K, p, o, h) =
           subst (λ f. Asks s f z q) p (subst (λ n. Asks s (plug e K) z (question n (q .at))) o (asked-question e K (q .at) h))
+
+  -- A record number names one subexpression in one place: where it is a question, that subexpression is asked there.
+  pub asks-node : {rule : Expr} → Numbered 0 rule → (e : Expr) (K : Context) → plug e K ≡ rule → (t : ℕ) →
+      Asks s rule z (question (last e) t) → Asked s z e K t
+  asks-node {rule} n e K p t h =
+      let (f, J, q, o, a) = asks-by-context rule (question (last e) t) .0 h in
+      let (same, place) = one-node n f e J K q p o in
+      subst₂ (λ x C. Asked s z x C t) same place a

@@ -9,9 +9,8 @@ use Rattle.meaning.specs.Expression.{Expr, step, tested, sequence, choic
 use Rattle.meaning.specs.Relation.{Plus, once, then, Rel}
 use Rattle.meaning.specs.Left.{Table}
 use Rattle.meaning.specs.Question.{Question, question, Asks}
-use Rattle.meaning.specs.Marks.{Follows, Justified, Followed}
+use Rattle.meaning.specs.Marks.{Follows, Justified, Arrived, Followed}
 use Rattle.meaning.proofs.Moves.{move-passes, related-reaches, rounds-reach, among}
-use Rattle.meaning.proofs.Asked.{asked-question}
 
 module _ {s : Site} {z : ℕ} {rule : Expr} {m : Table} {ends : ℕ → ℕ} (ok : Within s) (f : Followed s z rule m ends) where
   stay : (e : Expr) {t u : ℕ} → t < terms → Rel s e t u → u < terms
@@ -59,16 +58,9 @@ module _ {s : Site} {z : ℕ} {rule : Expr} {m : Table} {ends : ℕ → ℕ} (ok
       (rounds-follow r a K (λ i j. follows a (round-of r K) p i j) b (f .round-in r a K p t b h) v .0) w
 
   -- a table that is justified and followed marks just the questions
-  pub marks-exact : Justified s z rule m ends → z < terms → (e : Expr) (K : Context) → plug e K ≡ rule → (t : ℕ) → t < terms →
-      (m (last e) t ≡ 1) ↔ Asks s rule z (question (last e) t)
-  marks-exact j b e K p t c = (
-    λ h. subst (λ x. Asks s x z (question (last e) t)) p (asked-question s z e K t (j .asked e K p t c h)),
-    asks-marked (question (last e) t) rule whole refl z b (f .begun),
-  )
+  pub marks-exact : Justified s z rule m → z < terms → (r t : ℕ) → t < terms → (m r t ≡ 1) ↔ Asks s rule z (question r t)
+  marks-exact j b r t c = (j .asked r t c, asks-marked (question r t) rule whole refl z b (f .begun))
 
   -- and its marked ends are just the terms that the rule relates the start to
-  pub ends-exact : Justified s z rule m ends → z < terms → (u : ℕ) → u < terms → (ends u ≡ 1) ↔ Rel s rule z u
-  ends-exact j b u c = (λ h. reached (j .done u c h), follows rule whole refl z u b (f .begun))
-    where
-      reached : (t : ℕ) × (t ≡ z) × Rel s rule t u → Rel s rule z u
-      reached (t, e, v) = subst (λ x. Rel s rule x u) e v
+  pub ends-exact : Arrived s z rule ends → z < terms → (u : ℕ) → u < terms → (ends u ≡ 1) ↔ Rel s rule z u
+  ends-exact j b u c = (j .related u c, follows rule whole refl z u b (f .begun))

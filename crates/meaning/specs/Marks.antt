@@ -10,6 +10,7 @@ use Rattle.meaning.specs.Expression.{Expr, step, tested, sequence, choic
 use Rattle.meaning.specs.Relation.{Plus, Rel, Holds}
 use Rattle.meaning.specs.Fewest.{State, entered, finished}
 use Rattle.meaning.specs.Left.{Table}
+use Rattle.meaning.specs.Question.{question, Asks}
 
 -- e, standing in K, is asked at t, where the whole rule is asked at z
 abbrev pub Asked : Site → ℕ → Expr → Context → ℕ → Type 0
@@ -40,10 +41,13 @@ Follows m ends e (one-of r b K) u = Follows m ends (choice r e b) K u
 Follows m ends e (other-of r a K) u = Follows m ends (choice r a e) K u
 Follows m ends e (round-of r K) u = (m (last e) u ≡ 1) × Follows m ends (star r e) K u
 
--- each mark is asked, each marked end is done
-pub record Justified (s : Site) (z : ℕ) (rule : Expr) (m : Table) (ends : ℕ → ℕ) : Type 0 where
-  pub asked : (e : Expr) (K : Context) → plug e K ≡ rule → (t : ℕ) → t < terms → m (last e) t ≡ 1 → Asked s z e K t
-  pub done : (u : ℕ) → u < terms → ends u ≡ 1 → Done s z rule whole u
+-- each mark is a question that is asked
+pub record Justified (s : Site) (z : ℕ) (rule : Expr) (m : Table) : Type 0 where
+  pub asked : (r t : ℕ) → t < terms → m r t ≡ 1 → Asks s rule z (question r t)
+
+-- to each marked end the rule relates the start
+pub record Arrived (s : Site) (z : ℕ) (rule : Expr) (ends : ℕ → ℕ) : Type 0 where
+  pub related : (u : ℕ) → u < terms → ends u ≡ 1 → Rel s rule z u
 
 -- what a mark asks is marked
 pub record Followed (s : Site) (z : ℕ) (rule : Expr) (m : Table) (ends : ℕ → ℕ) : Type 0 where

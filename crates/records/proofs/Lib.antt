@@ -1,4 +1,9 @@
--- Laws of the records: what one record of a site shows, and what a whole site does.
+-- What reading a site and a rule gives, and that it gives one answer.
 pub mod Tests
 pub mod SiteRecord
 pub mod Sites
+pub mod Reading
+pub mod Progress
+pub mod Checked
+pub mod Starts
+pub mod First

@@ -2,4 +2,6 @@
 pub mod Refusals
 pub mod Bytes
 pub mod Sites
+pub mod Rules
+pub mod First
 pub mod Queries

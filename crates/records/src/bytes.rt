@@ -8,7 +8,7 @@ ghost use Rattle.records.specs.Bytes.{base, number16};
 use crate::TERMS;
 
 // The base of bytes; how many terms there are is another number.
-const BASE: usize = 256;
+pub const BASE: usize = 256;
 
 // The byte at a place, as a number.
 pub fn byte_at(s: &[u8], at: usize) -> usize
@@ -16,6 +16,19 @@ pub fn byte_at(s: &[u8], at: usize) -> usize
     ensures { λ r. ⌜ (r ≡ getD (now (s .entry)) at 0) × (r < base) ⌝ }
 {
     s[at] as usize
+}
+
+// The byte that stands `by` bytes after a place; 0 past the end.
+pub fn byte_after(s: &[u8], at: usize, by: usize) -> usize
+    ensures { λ r. ⌜ (r ≡ getD (now (s .entry)) (at + by) 0) × (r < base) ⌝ }
+{
+    if s.len() <= at {
+        return 0;
+    }
+    if s.len() - at <= by {
+        return 0;
+    }
+    s[at + by] as usize
 }
 
 // The two bytes at a place, high byte first.

@@ -1,3 +1,4 @@
+use native.Mathlib.Omega.{arith}
 use mathlib.Core.Path.{sym}
 use Rattle.fewest.proofs.Decoded.{pairs-at}
 use borrow.Author.Needs.{needs}
@@ -41,9 +42,11 @@ add-result c = search needs
 
 -- src/pairs.rt:15:1
 returns : tie.Need-returns
-returns c =
-    rw (c .wide2 .ensures .0, c .before .before .wide .ensures .0)
-    (sym (pairs-at (c .before .before .before .before .before .args .table .now) _ (c .before .before .before .before .before .pre)))
+returns c = (
+  rw (c .wide2 .ensures .0, c .before .before .wide .ensures .0)
+      (sym (pairs-at (c .before .before .before .before .before .args .table .now) _ (c .before .before .before .before .before .pre))),
+  omega (arith, c .wide2 .ensures .1, c .before .before .wide .ensures .1),
+)
 
 pub get-spec : {M : Type 1} → statement M
 get-spec =

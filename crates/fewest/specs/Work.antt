@@ -1,0 +1,181 @@
+-- What the functions over the table promise, one record each, over the table's list of numbers.
+-- The work of a step, of a star's empty rounds and of a row, looked at offer by offer.
+use Prim.Native.Nat.{ℕ, _+_, _-_, _<_, _≤_, min}
+use mathlib.Core.Path.{_≡_}
+use mathlib.Core.Logic.{_≢_}
+use mathlib.Core.Bool.{Bool, true, false, cond}
+use mathlib.Core.List.{List, List·Memᴰ}
+use lib.ListN.{length, getD}
+use lib.Dec.{eqb, ltb}
+use Rattle.meaning.specs.Limits.{terms, records, none}
+use Rattle.meaning.specs.Site as meant
+use Rattle.meaning.specs.Move.{Axis, self, Move, any, only}
+use Rattle.meaning.specs.Expression.{Rec, starring}
+use Rattle.meaning.specs.Fewest.{end, anywhere}
+use Rattle.meaning.specs.Fewest as meaning
+use Rattle.records.specs.declared.Triple.{Triple}
+use Rattle.records.specs.declared.Label.{Label}
+use Rattle.records.specs.declared.Label.the-variants.{Any, Term, Test}
+use Rattle.records.specs.declared.Step.{Step}
+use Rattle.records.specs.declared.Record.{Record}
+use Rattle.records.specs.declared.Record.the-variants as kind
+use Rattle.records.specs.Sites.{Accepted, siteOf}
+use Rattle.records.specs.Rules.{lastAxis, axisNumbered, recOf, recordAt, recAt, recordsOf}
+use Rattle.fewest.specs.declared.Goal.{Goal}
+use Rattle.fewest.specs.declared.Goal.the-variants.{End, Anywhere}
+use Rattle.fewest.specs.declared.look.Moved.{Moved}
+use Rattle.fewest.specs.Pairs.{pairs}
+use Rattle.fewest.specs.Frame.{as-round, Climbs, Frame, frame}
+use Rattle.fewest.specs.Offer.{view, Continues, Work, stepping, proving, copying, resting, worksOf, Offer, Lowers, Quiet, Settles, Settled}
+use Rattle.fewest.specs.Sweep.{sum, Swept}
+
+-- the code's goal is the meaning's
+abbrev pub goalOf : Goal → meaning.Goal
+goalOf (End v) = end v
+goalOf Anywhere = anywhere
+
+-- v is the least number that may follow record r's expression at u
+pub record Least (up role : List ℕ) (g : meaning.Goal) (T : List ℕ) (r u v : ℕ) : Type 0 where
+  pub among : (s : meant.Site) → Continues (frame s up role g) T r u v
+  pub least : (s : meant.Site) (w : ℕ) → Continues (frame s up role g) T r u w → v ≤ w
+  pub top : v ≤ none
+
+-- the least so far, and a round's own number with it
+unfoldable pub again-left : List ℕ → ℕ → ℕ → ℕ → ℕ → ℕ
+again-left T stands best r u = cond (eqb stands as-round) (min best (view T r u)) best
+
+-- the work of a step with this axis and label
+abbrev pub workOf : Axis → Label → Work
+workOf a Any = stepping a any
+workOf a (Term n) = stepping a (only n)
+workOf a Test = proving a
+
+-- the label of record r lets this middle pass; a test is the row before
+abbrev pub allowing : List ℕ → Label → ℕ → ℕ → Bool
+allowing T Any r m = true
+allowing T (Term n) r m = eqb m n
+allowing T Test r m = ltb (view T (r - 1) m) none
+
+-- a triple as the axis with this number takes it
+unfoldable pub movedBy : ℕ → Triple → Moved
+movedBy a x =
+    cond (eqb a 1) (record { from = x .subject; middle = x .predicate; to = x .object })
+    (cond (eqb a 2) (record { from = x .object; middle = x .predicate; to = x .subject })
+    (cond (eqb a 3) (record { from = x .subject; middle = x .object; to = x .predicate })
+    (cond (eqb a 4) (record { from = x .predicate; middle = x .object; to = x .subject })
+    (cond (eqb a 5) (record { from = x .predicate; middle = x .subject; to = x .object })
+    (record { from = x .object; middle = x .subject; to = x .predicate })))))
+
+-- the work of staying at a term: a star's empty round costs no step, a self step one
+abbrev pub staying : ℕ → Label → Work
+staying cost l = cond (eqb cost 0) resting (workOf self l)
+
+-- one look: row r is swept by this work, and where nothing changed, what Q says was seen
+abbrev pub Looks : Frame → Work → ℕ → (List ℕ → Type 0) → List ℕ → List ℕ → Bool → Bool → Type 0
+Looks F w r Q T T′ was now = Swept sum (Lowers F w r) Q T T′ was now
+
+-- nothing that this work offers to row r at term t is lower
+abbrev pub QuietAt : Frame → Work → ℕ → ℕ → List ℕ → Type 0
+QuietAt F w r t T = (v : ℕ) → Offer F T r t w v → view T r t ≤ v
+
+-- a whole row swept from another
+abbrev pub RowSwept : ℕ → ℕ → List ℕ → List ℕ → Bool → Bool → Type 0
+RowSwept a r T T′ was now = (F : Frame) → Swept sum (Lowers F (copying a) r) (Quiet F (copying a) r) T T′ was now
+
+-- a label that record r may have: its name is a term; its test is the row before, so it is not the first record
+abbrev pub Tests : Label → ℕ → Type 0
+Tests Any r = Unit
+Tests (Term n) r = n < terms
+Tests Test r = 0 < r
+
+-- triple number k is one of the site that the bytes are
+abbrev pub Has : List ℕ → ℕ → Type 0
+Has b k = (n : ℕ) × Accepted b n × (k < n)
+
+-- no step by triple number k offers record r a lower number
+abbrev pub QuietBy : Frame → Axis → Label → ℕ → ℕ → List ℕ → Type 0
+QuietBy F a l r k T = (t m u v : ℕ) → Move (F .site) a any k t m u → allowing T l r m ≡ true → Continues F T r u v → view T r t ≤ v + 1
+
+-- a look at triple k for a step of record r whose axis takes triples
+abbrev pub Looked : List ℕ → ℕ → Step → List ℕ → List ℕ → meaning.Goal → ℕ → List ℕ → List ℕ → Bool → Bool → Type 0
+Looked b k x up role g r T T′ was now =
+    (n : ℕ) → Accepted b n → k < n → x .axis ≢ 0 → x .axis ≤ lastAxis →
+    Looks (frame (siteOf b n) up role g) (workOf (axisNumbered (x .axis)) (x .label)) r
+    (QuietBy (frame (siteOf b n) up role g) (axisNumbered (x .axis)) (x .label) r k) T T′ was now
+
+-- where one may stay: at a vocabulary term; at a named term, where the step is named
+pub data MayRest (s : meant.Site) : Label → ℕ → ℕ → Type 0 where
+  at-word : {l : Label} {cost t : ℕ} → meant.Voc s t → MayRest s l cost t
+  at-name : {n cost t : ℕ} → cost ≡ 1 → MayRest s (Term n) cost t
+
+-- staying at t was looked at; an empty round has no label
+abbrev pub Rested : List ℕ → List ℕ → meaning.Goal → Label → ℕ → ℕ → ℕ → List ℕ → List ℕ → Bool → Bool → Type 0
+Rested up role g l cost r t T T′ was now =
+    (s : meant.Site) → MayRest s l cost t → (cost ≡ 0 → l ≡ Any) →
+    Looks (frame s up role g) (staying cost l) r (QuietAt (frame s up role g) (staying cost l) r t) T T′ was now
+
+-- staying at the subject and the object of triple k was looked at
+abbrev pub RestedBy : List ℕ → ℕ → List ℕ → List ℕ → meaning.Goal → Label → ℕ → ℕ → List ℕ → List ℕ → Bool → Bool → Type 0
+RestedBy b k up role g l cost r T T′ was now =
+    (n : ℕ) → Accepted b n → k < n → (cost ≡ 0 → l ≡ Any) →
+    Looks (frame (siteOf b n) up role g) (staying cost l) r
+    (λ X. QuietAt (frame (siteOf b n) up role g) (staying cost l) r (meant.triple (siteOf b n) k .subject) X ×
+    QuietAt (frame (siteOf b n) up role g) (staying cost l) r (meant.triple (siteOf b n) k .object) X) T T′ was now
+
+-- a label without a name
+abbrev pub Nameless : Label → Type 0
+Nameless Any = Unit
+Nameless (Term n) = ⊥
+Nameless Test = Unit
+
+-- this work's whole row was looked at
+abbrev pub WorkSwept : Frame → Work → ℕ → List ℕ → List ℕ → Bool → Bool → Type 0
+WorkSwept F w r T T′ was now = Swept sum (Lowers F w r) (Quiet F w r) T T′ was now
+
+abbrev pub RestsSwept : List ℕ → ℕ → List ℕ → List ℕ → meaning.Goal → Label → ℕ → ℕ → List ℕ → List ℕ → Bool → Bool → Type 0
+RestsSwept b n up role g l cost r T T′ was now =
+    Nameless l → (cost ≡ 0 → l ≡ Any) → WorkSwept (frame (siteOf b n) up role g) (staying cost l) r T T′ was now
+
+abbrev pub AxisSwept : List ℕ → ℕ → Step → List ℕ → List ℕ → meaning.Goal → ℕ → List ℕ → List ℕ → Bool → Bool → Type 0
+AxisSwept b n x up role g r T T′ was now =
+    x .axis ≢ 0 → x .axis ≤ lastAxis → WorkSwept (frame (siteOf b n) up role g) (workOf (axisNumbered (x .axis)) (x .label)) r T T′ was now
+
+abbrev pub StepSwept : List ℕ → ℕ → Step → List ℕ → List ℕ → meaning.Goal → ℕ → List ℕ → List ℕ → Bool → Bool → Type 0
+StepSwept b n x up role g r T T′ was now =
+    x .axis ≤ lastAxis → WorkSwept (frame (siteOf b n) up role g) (workOf (axisNumbered (x .axis)) (x .label)) r T T′ was now
+
+-- a record that record number r may be: its label sits there, and what it takes stands before it
+abbrev pub Sits : Record → ℕ → Type 0
+Sits (kind.Step x) r = (x .axis ≤ lastAxis) × Tests (x .label) r
+Sits kind.Sequence r = Unit
+Sits kind.Choice r = 0 < r
+Sits kind.Star r = 0 < r
+
+-- row r is lowered by these works
+pub data Rows (F : Frame) (ws : List Work) (r : ℕ) : List ℕ → List ℕ → Type 0 where
+  idle : {T : List ℕ} → Rows F ws r T T
+  worked : {T U W : List ℕ} {w : Work} → Rows F ws r T U → List·Memᴰ w ws → Lowers F w r U W → Rows F ws r T W
+
+abbrev pub RecordSwept : List ℕ → ℕ → Record → ℕ → List ℕ → List ℕ → meaning.Goal → ℕ → List ℕ → List ℕ → Bool → Bool → Type 0
+RecordSwept b n x f up role g r T T′ was now =
+    Swept sum (Rows (frame (siteOf b n) up role g) (worksOf (recOf x) r f) r)
+    (λ X. (w : Work) → List·Memᴰ w (worksOf (recOf x) r f) → Quiet (frame (siteOf b n) up role g) w r X) T T′ was now
+
+-- what the sweeps stand on: a good site, the rule's records at their places, and links that climb
+pub record Ready (site : List ℕ) (n : ℕ) (rule starts : List ℕ) (count : ℕ) (up role first : List ℕ) : Type 0 where
+  pub good : Accepted site n
+  pub climbs : Climbs records up role
+  pub counted : count ≡ length (recordsOf rule)
+  pub few : count ≤ records
+  pub firsts : (r : ℕ) → r < count → getD first r 0 < records
+  pub reads : (r : ℕ) → r < count → recAt rule (getD starts r 0) ≡ getD (recordsOf rule) r starring
+  pub sits : (r : ℕ) → r < count → Sits (recordAt rule (getD starts r 0)) r
+
+abbrev pub SweptOver : List ℕ → ℕ → List ℕ → List ℕ → List ℕ → List ℕ → meaning.Goal → List ℕ → List ℕ → Bool → Type 0
+SweptOver b n rule up role first g T T′ now =
+    Swept sum (Settles (frame (siteOf b n) up role g) (recordsOf rule) first) (Settled (frame (siteOf b n) up role g) (recordsOf rule) first) T T′ false now
+
+-- the table is reached by lowering, and nothing offered is lower
+pub record SettledOver (b : List ℕ) (n : ℕ) (rule up role first : List ℕ) (g : meaning.Goal) (T T′ : List ℕ) : Type 0 where
+  pub reached : Settles (frame (siteOf b n) up role g) (recordsOf rule) first T T′
+  pub settled : Settled (frame (siteOf b n) up role g) (recordsOf rule) first T′
