@@ -1,10 +1,11 @@
--- The two laws of numbers in byte pairs: what is read at a place, and what a store leaves.
+-- The laws of numbers in byte pairs: what is read at a place, what a store leaves, and what filling makes.
 -- Above them no proof looks at a byte.
 use Prim.Native.Nat.{ℕ, suc, zero, _+_, _*_, _<_}
 use mathlib.Core.Path.{_≡_, refl, ap}
-use mathlib.Core.List.{List, [], _∷_}
+use mathlib.Core.List.{List, [], _∷_, _++_, append-nil}
 use native.Mathlib.Omega.{arith}
-use lib.ListN.{length, getD, set}
+use lib.ListN.{length, getD, set, drop, replicate}
+use lib.Seq.{drop-length}
 use Rattle.fewest.specs.Pairs.{base, pairs}
 
 twice : (i : ℕ) → suc i + suc i ≡ suc (suc (i + i))
@@ -34,3 +35,15 @@ pairs-long [] i h = absurd (omega arith)
 pairs-long (x ∷ []) i h = absurd (omega arith)
 pairs-long (x ∷ (y ∷ b)) zero h = omega arith
 pairs-long (x ∷ (y ∷ b)) (suc i) h = let k = pairs-long b i (omega arith) in omega arith
+
+-- bytes that are all the same make numbers that are
+pairs-same : (n v : ℕ) → pairs (replicate (n + n) v) ≡ replicate n (v * base + v)
+unfolding pairs
+pairs-same zero v = refl
+pairs-same (suc n) v = rw (twice n) (ap (λ (l : List ℕ). (v * base + v) ∷ l) (pairs-same n v))
+
+-- so filling all bytes of a table fills the table
+pub pairs-filled : {b : List ℕ} (d : List ℕ) (n v i : ℕ) → length d ≡ n + n → i ≡ length d → b ≡ replicate i v ++ drop i d →
+    pairs b ≡ replicate n (v * base + v)
+pairs-filled d n v i long all filled =
+    rw (filled, all, drop-length, append-nil (replicate (length d) v), long) (pairs-same n v)

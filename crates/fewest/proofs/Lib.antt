@@ -11,6 +11,12 @@ pub mod Bridge
 pub mod Walk
 pub mod Axes
 pub mod Looks
+pub mod Loops
+pub mod Rowwise
+pub mod Resting
+pub mod ByTriples
+pub mod ByRecords
 pub mod Operands
 pub mod Linking
 pub mod Readiness
+pub mod Telling

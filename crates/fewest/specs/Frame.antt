@@ -4,10 +4,10 @@ use Prim.Native.Nat.{ℕ, _<_, _≤_}
 use mathlib.Core.Path.{_≡_}
 use mathlib.Core.Logic.{_≢_}
 use mathlib.Core.List.{List}
-use lib.ListN.{length, getD}
+use lib.ListN.{getD}
 use Rattle.meaning.specs.Limits.{records}
 use Rattle.meaning.specs.Site.{Site}
-use Rattle.meaning.specs.Expression.{Expr, sequence, choice, last, size, Context, whole, test, first-of, second-of, one-of, other-of, round-of, plug}
+use Rattle.meaning.specs.Expression.{Expr, sequence, choice, last, Context, whole, test, first-of, second-of, one-of, other-of, round-of, plug}
 use Rattle.meaning.specs.Fewest.{Goal}
 pub use Rattle.fewest.specs.declared.links.Links.{Links}
 

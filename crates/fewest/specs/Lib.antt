@@ -6,5 +6,6 @@ pub mod Next
 pub mod Offer
 pub mod Bounded
 pub mod Table
+pub mod Told
 pub mod Sweep
 pub mod Work

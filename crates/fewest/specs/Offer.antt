@@ -5,11 +5,11 @@ use mathlib.Core.Path.{_≡_}
 use mathlib.Core.List.{List, [], _∷_, List·Memᴰ}
 use lib.ListN.{length, getD, set}
 use Rattle.meaning.specs.Limits.{terms, none}
-use Rattle.meaning.specs.Site.{Site, Voc}
+use Rattle.meaning.specs.Site.{Voc}
 use Rattle.meaning.specs.Move.{Axis, Label, Move, any}
 use Rattle.meaning.specs.Expression.{Rec, plain, testing, joining, choosing, starring}
 use Rattle.meaning.specs.Left.{home-left}
-use Rattle.fewest.specs.Frame.{as-whole, as-test, as-first, as-last, as-round, Links, Frame}
+use Rattle.fewest.specs.Frame.{as-whole, as-test, as-first, as-last, as-round, Frame}
 
 -- the table's entry of record r at term t
 abbrev pub place : ℕ → ℕ → ℕ

@@ -10,7 +10,7 @@ use lib.Dec.{eqb, ltb}
 use Rattle.meaning.specs.Limits.{terms, records, none}
 use Rattle.meaning.specs.Site as meant
 use Rattle.meaning.specs.Move.{Axis, self, Move, any, only}
-use Rattle.meaning.specs.Expression.{Rec, starring}
+use Rattle.meaning.specs.Expression.{starring}
 use Rattle.meaning.specs.Fewest.{end, anywhere}
 use Rattle.meaning.specs.Fewest as meaning
 use Rattle.records.specs.declared.Triple.{Triple}
@@ -24,7 +24,6 @@ use Rattle.records.specs.Rules.{lastAxis, axisNumbered, recOf, recordAt, recAt,
 use Rattle.fewest.specs.declared.Goal.{Goal}
 use Rattle.fewest.specs.declared.Goal.the-variants.{End, Anywhere}
 use Rattle.fewest.specs.declared.look.Moved.{Moved}
-use Rattle.fewest.specs.Pairs.{pairs}
 use Rattle.fewest.specs.Frame.{as-round, Climbs, Frame, frame}
 use Rattle.fewest.specs.Offer.{view, Continues, Work, stepping, proving, copying, resting, worksOf, Offer, Lowers, Quiet, Settles, Settled}
 use Rattle.fewest.specs.Sweep.{sum, Swept}

@@ -5,6 +5,8 @@ pub mod table; // table.rt: entries by record and term
 pub mod links; // links.rt: where each record's expression stands in the rule
 pub mod left; // left.rt: what is left once an expression is finished
 pub mod look; // look.rt: one look at one offer
+pub mod sweep; // sweep.rt: sweeps over the table, until one changes nothing
+pub mod starts; // starts.rt: the starts, read off the table
 
 // Where the rule's own body may finish.
 pub enum Goal {

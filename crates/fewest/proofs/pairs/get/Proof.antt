@@ -1,46 +1,35 @@
+-- `fewest::pairs::get` meets its contract, by the first law of Decoded.
 use native.Mathlib.Omega.{arith}
 use mathlib.Core.Path.{sym}
 use Rattle.fewest.proofs.Decoded.{pairs-at}
 use borrow.Author.Needs.{needs}
 use Rattle.fewest.proofs.pairs.get.Statement.{statement}
 use Rattle.fewest.proofs.pairs.get.Tie as tie
-use Rattle.fewest.proofs.pairs.get.Reads as reads
-use Rattle.fewest.proofs.pairs.get.Lts as lts
-use Rattle.fewest.proofs.pairs.wide.Reads as wide-reads
 
--- src/pairs.rt:19:16
 add-high : tie.Need-add-high
 add-high c = search needs
 
--- src/pairs.rt:20:10
 shared-slice-read-wide : tie.Need-shared-slice-read-wide
 shared-slice-read-wide c = search needs
 
--- src/pairs.rt:20:5
 wide-requires : tie.Need-wide-requires
 wide-requires c κs = search needs
 
--- src/pairs.rt:20:5
 mul-result : tie.Need-mul-result
 mul-result c = search needs
 
--- src/pairs.rt:20:43
 add-wide : tie.Need-add-wide
 add-wide c = search needs
 
--- src/pairs.rt:20:37
 shared-slice-read-wide-2 : tie.Need-shared-slice-read-wide-2
 shared-slice-read-wide-2 c = search needs
 
--- src/pairs.rt:20:32
 wide-requires-2 : tie.Need-wide-requires-2
 wide-requires-2 c κs = search needs
 
--- src/pairs.rt:20:5
 add-result : tie.Need-add-result
 add-result c = search needs
 
--- src/pairs.rt:15:1
 returns : tie.Need-returns
 returns c = (
   rw (c .wide2 .ensures .0, c .before .before .wide .ensures .0)

@@ -1,3 +1,4 @@
+-- `fewest::table::number` meets its contract: what is read at the place is the entry's number.
 use Rattle.fewest.specs.Pairs.{pairs}
 use Rattle.fewest.proofs.Entries.{read-view}
 use Rattle.fewest.specs.Table.{Full}
@@ -6,21 +7,14 @@ use native.Mathlib.Omega.{arith}
 use borrow.Author.Needs.{needs}
 use Rattle.fewest.proofs.table.number.Statement.{statement}
 use Rattle.fewest.proofs.table.number.Tie as tie
-use Rattle.fewest.proofs.table.number.Reads as reads
-use Rattle.fewest.proofs.table.number.Lts as lts
-use Rattle.fewest.proofs.pairs.get.Reads as get-reads
-use Rattle.fewest.proofs.table.entry.Reads as entry-reads
 
--- src/table.rt:26:18
 entry-requires : tie.Need-entry-requires
 entry-requires c κs = search needs
 
--- src/table.rt:26:5
 get-requires : tie.Need-get-requires
 unfolding Full
 get-requires c κs = omega arith
 
--- src/table.rt:22:1
 returns : tie.Need-returns
 unfolding none
 returns c = (

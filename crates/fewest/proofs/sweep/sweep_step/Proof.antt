@@ -1,0 +1,76 @@
+-- `fewest::sweep::sweep_step` meets its contract: an axis that takes triples goes by them, a named self stays at its name, any
+-- other self at each vocabulary term.
+use mathlib.Core.Path.{refl}
+use mathlib.Core.Logic.{⊎-elim}
+use mathlib.Core.List.{[], _∷_}
+use native.Mathlib.Omega.{arith}
+use denote.Enum.Declared.{tagOf}
+use types.Run.{OneOf}
+use borrow.Author.Needs.{needs}
+use Rattle.records.specs.declared.Label.{Label}
+use Rattle.records.specs.declared.Label.the-variants.{Any, Term, Test}
+use Rattle.records.proofs.Label.{the-type}
+use Rattle.fewest.specs.Work.{Nameless, at-name}
+use Rattle.fewest.proofs.Resting.{name-swept}
+use Rattle.fewest.proofs.ByTriples.{self-axis}
+use Rattle.fewest.proofs.sweep.sweep_step.Statement.{statement}
+use Rattle.fewest.proofs.sweep.sweep_step.Tie as tie
+
+-- a label whose variant is not the named one
+nameless : (l : Label) → OneOf (0 ∷ (2 ∷ [])) (tagOf the-type l) → Nameless l
+nameless Any tag = tt
+nameless (Term n) tag = ⊎-elim (λ e. absurd (omega arith)) (λ e. absurd (omega arith)) tag
+nameless Test tag = tt
+
+sweep-axis-requires : tie.Need-sweep-axis-requires
+sweep-axis-requires c κs = search needs
+
+same-length : tie.Need-same-length
+same-length c = search needs
+
+returns : tie.Need-returns
+returns c = λ known. c .before .before .sweep-axis .ensures (c .before .before .before .before .if1 .taken) known
+
+enum-known-label : tie.Need-enum-known-label
+enum-known-label c = search needs
+
+rest-requires : tie.Need-rest-requires
+rest-requires c κs =
+    let pre = c .before .before .before .before .before .before .before .before .pre in
+    let name = rw (c .before .before .label .given .1) at (pre .4) in
+    (pre .1, pre .2, pre .3, name, name, omega arith)
+
+same-length-2 : tie.Need-same-length-2
+same-length-2 c = search needs
+
+returns-2 : tie.Need-returns-2
+returns-2 c = λ known.
+    rw (self-axis _ (c .before .before .before .before .before .before .before .if1 .left))
+    (name-swept (c .before .before .before .before .before .label .given .1) (c .before .before .rest .ensures _ (at-name refl) (λ e. absurd (omega arith))))
+
+sweep-rests-requires : tie.Need-sweep-rests-requires
+sweep-rests-requires c κs = search needs
+
+same-length-3 : tie.Need-same-length-3
+same-length-3 c = search needs
+
+returns-3 : tie.Need-returns-3
+returns-3 c = λ known.
+    let other = c .before .before .before .before in
+    rw (self-axis _ (other .before .if1 .left))
+    (c .before .before .sweep-rests .ensures (nameless (other .before .before .before .before .before .args .step .label) (other .match .keys2)) (λ e. absurd (omega arith)))
+
+pub sweep-step-spec : {M : Type 1} → statement M
+sweep-step-spec =
+    tie.close
+    (tie.spec
+    sweep-axis-requires
+    same-length
+    returns
+    enum-known-label
+    rest-requires
+    same-length-2
+    returns-2
+    sweep-rests-requires
+    same-length-3
+    returns-3)
