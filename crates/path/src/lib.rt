@@ -1,0 +1,80 @@
+// The path that is shown, a step at a time: of the steps that can be taken where the walk stands, the smallest that
+// begins a shortest way.
+pub mod choose; // choose.rt: the smallest step that leaves as few as are left
+pub mod enter; // enter.rt: which records can be entered at no cost
+pub mod word; // word.rt: whether a term is in the vocabulary
+
+use choose::choose;
+use enter::enter;
+use fewest::Goal;
+use records::RECORDS;
+use word::word;
+ghost use Prim.Native.Nat.{_<_};
+ghost use Rattle.meaning.specs.Limits.{terms};
+ghost use Rattle.records.specs.Sites.{siteOf};
+ghost use Rattle.records.specs.Rules.{recordsOf};
+ghost use Rattle.fewest.specs.Pairs.{pairs};
+ghost use Rattle.fewest.specs.Frame.{frame};
+ghost use Rattle.fewest.specs.Table.{Full};
+ghost use Rattle.fewest.specs.Work.{goalOf, Ready};
+ghost use Rattle.path.specs.Pick.{Picked};
+ghost use Rattle.path.specs.Flags.{Placed};
+
+// Where a walk stands: before its first step, or after a step of this record.
+pub enum Stand {
+    Begin,
+    After(usize),
+}
+
+// One step of a path: its record, its triple (none for self) and the term reached.
+pub struct Taken {
+    pub by: usize,
+    pub over: usize,
+    pub to: usize,
+}
+
+// The step to take, or nothing where none can be taken.
+pub enum Pick {
+    Step(Taken),
+    Nothing,
+}
+
+// The next step of a walk that stands so at term t, with d steps left after it.
+pub fn next_step<'a>(
+    site: &[u8],
+    triples: usize,
+    rule: &[u8],
+    starts: &[usize; RECORDS],
+    count: usize,
+    up: &'a [u8; RECORDS],
+    role: &'a [u8; RECORDS],
+    first: &'a [u8; RECORDS],
+    goal: Goal,
+    numbers: &[u8],
+    stand: Stand,
+    t: usize,
+    d: usize,
+) -> Pick
+    requires { ⌜ Ready (now site) triples (now rule) (now starts) count (now up) (now role) (now first) × Full (now numbers) × (t < terms) × Placed stand ⌝ }
+    ensures { λ r. ⌜ Picked (frame (siteOf (now (site .entry)) triples) (now (up .entry)) (now (role .entry)) (goalOf goal)) (pairs (now (numbers .entry))) (recordsOf (now (rule .entry))) (now (first .entry)) stand t d r ⌝ }
+{
+    let here = word(site, triples, t);
+    let mut shut = [1; RECORDS];
+    enter(rule, starts, count, up, role, first, here, stand, &mut shut);
+    choose(
+        site,
+        triples,
+        rule,
+        starts,
+        count,
+        up,
+        role,
+        first,
+        goal,
+        numbers,
+        &shut,
+        here,
+        t,
+        d,
+    )
+}
