@@ -44,8 +44,8 @@ axis-takes a other =
     (λ e. picked.by-test Takes (eqb a 5) (λ e. forwards)
     (λ e. backwards))))))
 
--- a move by such an axis has a triple's number; without its label it is one too, and the label allows its middle
-by-triple : {s : Site} {a : Axis} {l : move.Label} {k t m u : ℕ} → Takes a → Move s a l k t m u →
+-- A move by such an axis has a triple's number; without its label it is one too, and the label allows its middle.
+pub by-triple : {s : Site} {a : Axis} {l : move.Label} {k t m u : ℕ} → Takes a → Move s a l k t m u →
     (k < length s) × Move s a any k t m u × Allows l m
 by-triple forwards (going p i) = (p .below, going p tt, i)
 by-triple backwards (coming p i) = (p .below, coming p tt, i)

@@ -31,7 +31,7 @@ looked {r = r} {t} {v} {T = T} b o l quiet = elim (decLt v (view T r t)) [
 ]
 
 -- a move past any middle is one past a named middle, if that is its middle
-named : {s : Site} {a : Axis} {k t m u n : ℕ} → Move s a any k t m u → m ≡ n → Move s a (only n) k t m u
+pub named : {s : Site} {a : Axis} {k t m u n : ℕ} → Move s a any k t m u → m ≡ n → Move s a (only n) k t m u
 named (staying x) e = staying (record { number = x .number; rests = sym (x .passes) ∙ e; passes = x .passes; ends = x .ends })
 named (going x _) e = going x e
 named (coming x _) e = coming x e

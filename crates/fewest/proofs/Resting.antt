@@ -4,10 +4,12 @@ use Prim.Native.Nat.{ℕ, _*_, _<_, _≤_}
 use mathlib.Core.Path.{_≡_, refl}
 use mathlib.Core.Logic.{_⊎_, inl, inr, ⊎-elim}
 use mathlib.Core.Bool.{Bool, true, false, cond}
-use mathlib.Core.List.{List}
+use mathlib.Core.List.{List, [], _∷_}
 use native.Mathlib.Omega.{arith}
 use lib.ListN.{length}
 use lib.Dec.{eqb}
+use denote.Enum.Declared.{tagOf}
+use types.Run.{OneOf}
 use Rattle.meaning.specs.Limits.{terms}
 use Rattle.meaning.specs.Site as meant
 use Rattle.meaning.specs.Move.{self, Move, staying, only}
@@ -16,6 +18,7 @@ use Rattle.records.specs.declared.Triple.{Triple}
 use Rattle.records.specs.declared.Label.{Label}
 use Rattle.records.specs.declared.Label.the-variants.{Any, Term, Test}
 use Rattle.records.specs.Sites.{Accepted, siteOf, tripleOf, tripleWidth, inCode}
+use Rattle.records.proofs.Label.{the-type}
 use Rattle.records.proofs.Sites.{length-siteOf, triple-siteOf}
 use Rattle.fewest.specs.Frame.{Frame}
 use Rattle.fewest.specs.Offer.{Work, stepping, resting, Offer, by-step, by-test, by-rest, Lowers, Quiet}
@@ -24,8 +27,8 @@ use Rattle.fewest.specs.Work.{workOf, staying as stayingBy, Looks, Quiet
 use Rattle.fewest.proofs.Sweeps.{lowers-chain, swept-then, swept-weaken}
 use Rattle.fewest.proofs.Loops.{Seen}
 
--- a term at an end of triple number k is a vocabulary term
-word : (b : List ℕ) {n k : ℕ} → k < n → {t : ℕ} →
+-- A term at an end of triple number k is a vocabulary term.
+pub word : (b : List ℕ) {n k : ℕ} → k < n → {t : ℕ} →
     (t ≡ meant.triple (siteOf b n) k .subject) ⊎ (t ≡ meant.triple (siteOf b n) k .object) → meant.Voc (siteOf b n) t
 word b {n} {k} h stands = record { number = k; below = rw (length-siteOf b n) h; stands = stands }
 
@@ -34,12 +37,12 @@ word-term : {b : List ℕ} {n t : ℕ} → Accepted b n → meant.Voc (siteOf b 
 word-term {t = t} good v =
     good .within t (record { number = v .number; below = v .below; stands = ⊎-elim inl (λ e. inr (inr e)) (v .stands) })
 
--- the ends of triple number k, as the code holds it
+-- The ends of triple number k, as the code holds it.
 module _ (b : List ℕ) {n k : ℕ} {x : Triple} (here : x ≡ inCode (tripleOf b (k * tripleWidth))) (h : k < n) where
-  subject-is : x .subject ≡ meant.triple (siteOf b n) k .subject
+  pub subject-is : x .subject ≡ meant.triple (siteOf b n) k .subject
   subject-is = rw (here, triple-siteOf b n k h)
 
-  object-is : x .object ≡ meant.triple (siteOf b n) k .object
+  pub object-is : x .object ≡ meant.triple (siteOf b n) k .object
   object-is = rw (here, triple-siteOf b n k h)
 
 module _ (b : List ℕ) {k : ℕ} {x : Triple} (here : x ≡ inCode (tripleOf b (k * tripleWidth))) where
@@ -60,12 +63,18 @@ module _ (b : List ℕ) {k : ℕ} {x : Triple} (here : x ≡ inCode (tripleOf b 
 abbrev pub AtEnds : Frame → Work → ℕ → ℕ → List ℕ → Type 0
 AtEnds F w r k X = QuietAt F w r (meant.triple (F .site) k .subject) X × QuietAt F w r (meant.triple (F .site) k .object) X
 
--- each triple seen, every vocabulary term was seen
-words-quiet : {F : Frame} {w : Work} {r : ℕ} {X : List ℕ} → ((k : ℕ) → k < length (F .site) → AtEnds F w r k X) →
-    (t : ℕ) → meant.Voc (F .site) t → QuietAt F w r t X
-words-quiet seen t v =
+-- What was seen at both ends of each triple was seen at every vocabulary term.
+pub each-word : {s : meant.Site} (Q : ℕ → Type 0) → ((k : ℕ) → k < length s → Q (meant.triple s k .subject) × Q (meant.triple s k .object)) →
+    (t : ℕ) → meant.Voc s t → Q t
+each-word Q seen t v =
     let (subject, object) = seen (v .number) (v .below) in
     ⊎-elim (λ e. rw e subject) (λ e. rw e object) (v .stands)
+
+-- A label whose variant is not the named one has no name.
+pub nameless : (l : Label) → OneOf (0 ∷ (2 ∷ [])) (tagOf the-type l) → Nameless l
+nameless Any tag = tt
+nameless (Term n) tag = ⊎-elim (λ e. absurd (omega arith)) (λ e. absurd (omega arith)) tag
+nameless Test tag = tt
 
 -- where no name is given, staying is offered at vocabulary terms only
 at-words : {F : Frame} {T : List ℕ} {r t v : ℕ} (l : Label) (empty : Bool) → Nameless l →
@@ -78,8 +87,8 @@ at-words Test false free (by-test (staying x) h c) = x .rests
 -- Each triple seen, staying was looked at wherever it is offered.
 pub words-swept : {F : Frame} (l : Label) (cost : ℕ) {r k : ℕ} {T U : List ℕ} {was now : Bool} → length (F .site) ≤ k → Nameless l →
     Seen sum (Lowers F (stayingBy cost l) r) (AtEnds F (stayingBy cost l) r) k T U was now → WorkSwept F (stayingBy cost l) r T U was now
-words-swept l cost past free p =
-    swept-weaken (λ seen t v b o. words-quiet (λ j h. seen j (omega arith)) t (at-words l (eqb cost 0) free o) v o) p
+words-swept {F} l cost {r} {T = T} past free p =
+    swept-weaken (λ seen t v b o. each-word (λ u. QuietAt F (stayingBy cost l) r u T) (λ j h. seen j (omega arith)) t (at-words l (eqb cost 0) free o) v o) p
 
 -- a named self stays at its name
 at-name : {s : meant.Site} {n k t m u : ℕ} → Move s self (only n) k t m u → t ≡ n

@@ -150,15 +150,18 @@ Sits kind.Sequence r = Unit
 Sits kind.Choice r = 0 < r
 Sits kind.Star r = 0 < r
 
--- row r is lowered by these works
-pub data Rows (F : Frame) (ws : List Work) (r : ℕ) : List ℕ → List ℕ → Type 0 where
-  idle : {T : List ℕ} → Rows F ws r T T
-  worked : {T U W : List ℕ} {w : Work} → Rows F ws r T U → List·Memᴰ w ws → Lowers F w r U W → Rows F ws r T W
+-- a table is changed by these works, each as R says
+pub data Rows {A : Type 0} (R : Work → A → A → Type 0) (ws : List Work) : A → A → Type 0 where
+  idle : {T : A} → Rows R ws T T
+  worked : {T U W : A} {w : Work} → Rows R ws T U → List·Memᴰ w ws → R w U W → Rows R ws T W
+
+-- each of these works was done; where nothing changed, each has seen what Q says
+abbrev pub WorksSwept : {A : Type 0} (μ : A → ℕ) (R : Work → A → A → Type 0) (Q : Work → A → Type 0) (ws : List Work) (T U : A) (was now : Bool) → Type 0
+WorksSwept μ R Q ws T U was now = Swept μ (Rows R ws) (λ X. (w : Work) → List·Memᴰ w ws → Q w X) T U was now
 
 abbrev pub RecordSwept : List ℕ → ℕ → Record → ℕ → List ℕ → List ℕ → meaning.Goal → ℕ → List ℕ → List ℕ → Bool → Bool → Type 0
 RecordSwept b n x f up role g r T T′ was now =
-    Swept sum (Rows (frame (siteOf b n) up role g) (worksOf (recOf x) r f) r)
-    (λ X. (w : Work) → List·Memᴰ w (worksOf (recOf x) r f) → Quiet (frame (siteOf b n) up role g) w r X) T T′ was now
+    WorksSwept sum (λ w. Lowers (frame (siteOf b n) up role g) w r) (λ w. Quiet (frame (siteOf b n) up role g) w r) (worksOf (recOf x) r f) T T′ was now
 
 -- what the sweeps stand on: a good site, the rule's records at their places, and links that climb
 pub record Ready (site : List ℕ) (n : ℕ) (rule starts : List ℕ) (count : ℕ) (up role first : List ℕ) : Type 0 where

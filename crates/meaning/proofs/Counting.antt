@@ -27,7 +27,7 @@ use native.Mathlib.Nat.{add-zero, add-suc, suc-mul, zero-mul, le-antisymm, le-re
 use native.Mathlib.Numerals.{add-one}
 use native.Mathlib.Omega.{arith}
 use lib.ListN.{length, length-append, length-map}
-use Rattle.meaning.specs.Question.{Question, question, Different, empty, more, Count}
+use Rattle.meaning.specs.Question.{Question, question, Different, empty, more, Count, Tells}
 
 module _ {A : Type 0} where
   -- a list without one occurrence of a member: whatever else stands in the list stands there still
@@ -183,11 +183,6 @@ count-by {A} {P} number (suc n) w c =
   where
     last : (x : A) → (number x < suc n) × P x → ((number x < n) × P x) ⊎ ((number x ≡ n) × P x)
     last x (h, p) = elim (decLt (number x) n) [ yes l ↦ inl (l, p) | no l ↦ inr (omega arith, p) ]
-
--- b tells whether P: it is 1 just where P is so, and else 0
-pub record Tells (P : Type 0) (b : ℕ) : Type 0 where
-  pub bit : b ≤ 1
-  pub exactly : (b ≡ 1) ↔ P
 
 -- Numbers below n are counted by adding what tells of each.
 pub count-told : {P : ℕ → Type 0} (n : ℕ) (b : ℕ → ℕ) → ((k : ℕ) → k < n → Tells (P k) (b k)) →

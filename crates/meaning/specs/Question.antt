@@ -1,6 +1,6 @@
 -- Questions, the work figure, the ends and the starts (document 01, "The work figure", "Lent tables").
 -- A question is a subexpression, named by its record, and a term.
-use Prim.Native.Nat.{ℕ}
+use Prim.Native.Nat.{ℕ, _≤_}
 use mathlib.Core.Path.{_≡_}
 use mathlib.Core.List.{List, [], _∷_, List·Memᴰ}
 use mathlib.Core.Logic.{_⊎_, _↔_}
@@ -41,6 +41,11 @@ pub record Count {A : Type 0} (P : A → Type 0) (n : ℕ) : Type 0 where
   pub different : Different list
   pub exactly : (x : A) → List·Memᴰ x list ↔ P x
   pub long : length list ≡ n
+
+-- b tells whether P: it is 1 just where P is so, and else 0
+pub record Tells (P : Type 0) (b : ℕ) : Type 0 where
+  pub bit : b ≤ 1
+  pub exactly : (b ≡ 1) ↔ P
 
 -- the work figure: the number of different questions asked once the whole rule is asked at the start
 abbrev pub Figure : Site → Expr → ℕ → ℕ → Type 0

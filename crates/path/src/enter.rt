@@ -1,5 +1,5 @@
-// Which records can be entered at no cost where the walk stands, as flags: 0 for a record that is not known to be open.
-// Flags are only ever set for a reason, and sweeps go on until one changes nothing: then none is missing.
+// Which records can be entered at no cost where the walk stands, as flags: 1 for a record that is shut, 0 for one that is open.
+// A record is only ever opened for a reason, and sweeps go on until one changes nothing: then none is missing.
 use crate::Stand;
 use fewest::links::AS_FIRST;
 use fewest::links::AS_ROUND;

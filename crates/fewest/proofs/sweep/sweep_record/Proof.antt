@@ -4,6 +4,7 @@ use native.Mathlib.Omega.{arith}
 use borrow.Author.Needs.{needs}
 use Rattle.fewest.specs.Table.{Full}
 use Rattle.fewest.proofs.ByRecords.{by-step, by-sequence, by-choice, by-star}
+use Rattle.fewest.proofs.Sweeps.{lowers-chain}
 use Rattle.fewest.proofs.sweep.sweep_record.Statement.{statement}
 use Rattle.fewest.proofs.sweep.sweep_record.Tie as tie
 
@@ -57,21 +58,21 @@ same-length c = search needs
 
 returns : tie.Need-returns
 returns c =
-    by-step _ (c .before .before .before .before .before .rec .given .1)
+    by-step (λ w. lowers-chain) _ _ (c .before .before .before .before .before .rec .given .1)
     (c .before .before .sweep-step .ensures ((rw (c .before .before .before .before .before .rec .given .1) at (c .before .before .before .before .before .before .before .before .before .pre .4)) .0))
 
 same-length-2 : tie.Need-same-length-2
 same-length-2 c = search needs
 
 returns-2 : tie.Need-returns-2
-returns-2 c = by-sequence _ (c .before .before .before .before .enum-told .given .1) (c .before .before .sweep-row .ensures _)
+returns-2 c = by-sequence (λ w. lowers-chain) _ _ (c .before .before .before .before .enum-told .given .1) (c .before .before .sweep-row .ensures _)
 
 same-length-3 : tie.Need-same-length-3
 same-length-3 c = search needs
 
 returns-3 : tie.Need-returns-3
 returns-3 c =
-    by-choice _ (c .before .before .before .before .before .before .before .before .enum-told2 .given .1)
+    by-choice (λ w. lowers-chain) _ _ (c .before .before .before .before .before .before .before .before .enum-told2 .given .1)
     (c .before .before .before .before .before .before .sweep-row2 .ensures _) (c .before .before .sweep-row3 .ensures _)
 
 same-length-4 : tie.Need-same-length-4
@@ -79,7 +80,7 @@ same-length-4 c = search needs
 
 returns-4 : tie.Need-returns-4
 returns-4 c =
-    by-star _ (c .before .before .before .before .before .before .before .before .enum-told3 .given .1)
+    by-star (λ w. lowers-chain) _ _ (c .before .before .before .before .before .before .before .before .enum-told3 .given .1)
     (c .before .before .before .before .before .before .sweep-row4 .ensures _) (c .before .before .sweep-rests .ensures tt (λ e. refl))
 
 pub sweep-record-spec : {M : Type 1} → statement M

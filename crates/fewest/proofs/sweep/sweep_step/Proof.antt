@@ -1,26 +1,13 @@
 -- `fewest::sweep::sweep_step` meets its contract: an axis that takes triples goes by them, a named self stays at its name, any
 -- other self at each vocabulary term.
 use mathlib.Core.Path.{refl}
-use mathlib.Core.Logic.{⊎-elim}
-use mathlib.Core.List.{[], _∷_}
 use native.Mathlib.Omega.{arith}
-use denote.Enum.Declared.{tagOf}
-use types.Run.{OneOf}
 use borrow.Author.Needs.{needs}
-use Rattle.records.specs.declared.Label.{Label}
-use Rattle.records.specs.declared.Label.the-variants.{Any, Term, Test}
-use Rattle.records.proofs.Label.{the-type}
-use Rattle.fewest.specs.Work.{Nameless, at-name}
-use Rattle.fewest.proofs.Resting.{name-swept}
+use Rattle.fewest.specs.Work.{at-name}
+use Rattle.fewest.proofs.Resting.{nameless, name-swept}
 use Rattle.fewest.proofs.ByTriples.{self-axis}
 use Rattle.fewest.proofs.sweep.sweep_step.Statement.{statement}
 use Rattle.fewest.proofs.sweep.sweep_step.Tie as tie
-
--- a label whose variant is not the named one
-nameless : (l : Label) → OneOf (0 ∷ (2 ∷ [])) (tagOf the-type l) → Nameless l
-nameless Any tag = tt
-nameless (Term n) tag = ⊎-elim (λ e. absurd (omega arith)) (λ e. absurd (omega arith)) tag
-nameless Test tag = tt
 
 sweep-axis-requires : tie.Need-sweep-axis-requires
 sweep-axis-requires c κs = search needs

@@ -1,0 +1,3 @@
+-- What the byte table's functions promise.
+pub mod Mark
+pub mod Seek

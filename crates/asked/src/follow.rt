@@ -1,0 +1,57 @@
+// What follows where record r's expression is done at u: up the links, each record that is asked next, and the end.
+use crate::mark::arrive;
+use crate::mark::mark;
+use fewest::links::AS_FIRST;
+use fewest::links::AS_ROUND;
+use fewest::links::AS_TEST;
+use fewest::links::AS_WHOLE;
+use records::RECORDS;
+ghost use Prim.Native.Nat.{_<_};
+ghost use lib.Dec.{eqb};
+ghost use Rattle.meaning.specs.Limits.{terms, records};
+ghost use Rattle.fewest.specs.Frame.{as-round, Climbs};
+ghost use Rattle.asked.specs.Mark.{marks};
+ghost use Rattle.asked.specs.Seek.{Whole, Bits, MarkedIf, Followed-up};
+
+// A star's operand is asked again where it is done.
+fn again(asked: &mut [u8], stands: u8, r: usize, u: usize, was: bool) -> bool
+    requires { ⌜ Whole (now asked) × Bits (now asked) × (r < records) × (u < terms) ⌝ }
+    ensures { λ more. ⌜ MarkedIf (eqb stands as-round) r u (now (asked .entry)) (now (asked .exit)) was more ⌝ }
+{
+    if stands == AS_ROUND {
+        return mark(asked, r, u, was);
+    }
+    was
+}
+
+// Where record r's expression is done at u, what follows is marked.
+pub fn follow<'a>(
+    up: &'a [u8; RECORDS],
+    role: &'a [u8; RECORDS],
+    asked: &mut [u8],
+    ends: &mut [u8],
+    r: usize,
+    u: usize,
+    was: bool,
+) -> bool
+    requires { ⌜ Climbs records (now up) (now role) × Whole (now asked) × Bits (now asked) × Bits (now ends) × (r < records) × (u < terms) ⌝ }
+    ensures { λ more. ⌜ Followed-up (now (up .entry)) (now (role .entry)) r u (marks (now (asked .entry)) (now (ends .entry))) (marks (now (asked .exit)) (now (ends .exit))) was more ⌝ }
+{
+    let mut more = was;
+    let mut at = r;
+    loop {
+        let stands = role[at];
+        if stands == AS_WHOLE {
+            return arrive(ends, u, more);
+        }
+        if stands == AS_TEST {
+            return more;
+        }
+        let above = up[at] as usize;
+        if stands == AS_FIRST {
+            return mark(asked, above - 1, u, more);
+        }
+        more = again(asked, stands, at, u, more);
+        at = above;
+    }
+}

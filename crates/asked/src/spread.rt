@@ -1,0 +1,333 @@
+// Sweeps over the byte table: row by row, record by record, until one adds no mark.
+use crate::mark::is_marked;
+use crate::mark::mark;
+use crate::seek::rest;
+use crate::seek::seek;
+use records::Label;
+use records::RECORDS;
+use records::Record;
+use records::Step;
+use records::TERMS;
+use records::rule::record_at;
+use records::site::triple_at;
+ghost use mathlib.Core.Path.{_≡_};
+ghost use mathlib.Core.Logic.{_≢_};
+ghost use Prim.Native.Nat.{_*_, _<_, _≤_};
+ghost use lib.ListN.{length, replicate};
+ghost use Rattle.meaning.specs.Limits.{terms, records};
+ghost use Rattle.records.specs.Sites.{Accepted};
+ghost use Rattle.records.specs.Rules.{lastAxis};
+ghost use Rattle.fewest.specs.Pairs.{pairs};
+ghost use Rattle.fewest.specs.Frame.{Climbs};
+ghost use Rattle.fewest.specs.Table.{Full};
+ghost use Rattle.fewest.specs.Work.{Tests, Has, Nameless, Sits, Ready};
+ghost use Rattle.asked.specs.Mark.{marks};
+ghost use Rattle.asked.specs.Seek.{Whole, Bits, Entered, RowSought, RestedBy, RestsSought, StepSought, RecordSought, SoughtOver, SettledMarks, MarkedOver};
+
+// A row of the byte table is filled with 0.
+fn clear_row(row: &mut [u8])
+    ensures { λ _. ⌜ now (row .exit) ≡ replicate (length (now (row .entry))) 0 ⌝ }
+{
+    let mut t = 0;
+    while t < row.len() {
+        row[t] = 0;
+        t += 1;
+    }
+}
+
+// The byte table is filled with 0, row by row: each record's row is lent on to be filled.
+pub fn clear(asked: &mut [u8])
+    requires { ⌜ Whole (now asked) ⌝ }
+    ensures { λ _. ⌜ now (asked .exit) ≡ replicate (records * terms) 0 ⌝ }
+{
+    let mut r = 0;
+    while r < RECORDS {
+        let at = r * TERMS;
+        let end = at + TERMS;
+        clear_row(&mut asked[at..end]);
+        r += 1;
+    }
+}
+
+// Where record r is asked at t, its operand, record a, is asked there too.
+fn enter(asked: &mut [u8], r: usize, a: usize, t: usize, was: bool) -> bool
+    requires { ⌜ Whole (now asked) × Bits (now asked) × (r < records) × (a < records) × (t < terms) ⌝ }
+    ensures { λ more. ⌜ Entered a r t (now (asked .entry)) (now (asked .exit)) was more ⌝ }
+{
+    if is_marked(asked, r, t) {
+        return mark(asked, a, t, was);
+    }
+    was
+}
+
+// Wherever record r is asked, its operand, record a, is asked too.
+fn spread_row(asked: &mut [u8], r: usize, a: usize, was: bool) -> bool
+    requires { ⌜ Whole (now asked) × Bits (now asked) × (r < records) × (a < records) ⌝ }
+    ensures { λ more. ⌜ RowSought a r (now (asked .entry)) (now (asked .exit)) was more ⌝ }
+{
+    let mut more = was;
+    let mut t = 0;
+    while t < TERMS {
+        more = enter(asked, r, a, t, more);
+        t += 1;
+    }
+    more
+}
+
+// Staying at the subject and at the object of triple k, for record r.
+fn rest_by<'a>(
+    site: &[u8],
+    k: usize,
+    up: &'a [u8; RECORDS],
+    role: &'a [u8; RECORDS],
+    numbers: &[u8],
+    asked: &mut [u8],
+    ends: &mut [u8],
+    label: Label,
+    r: usize,
+    was: bool,
+) -> bool
+    requires { ⌜ Has (now site) k × Full (now numbers) × Climbs records (now up) (now role) × Whole (now asked) × Bits (now asked) × Bits (now ends) × (r < records) × Tests label r ⌝ }
+    ensures { λ more. ⌜ RestedBy (now (site .entry)) k (now (up .entry)) (now (role .entry)) (pairs (now (numbers .entry))) label r (marks (now (asked .entry)) (now (ends .entry))) (marks (now (asked .exit)) (now (ends .exit))) was more ⌝ }
+{
+    let x = triple_at(site, k);
+    let first = rest(up, role, numbers, asked, ends, label, r, x.subject, was);
+    rest(up, role, numbers, asked, ends, label, r, x.object, first)
+}
+
+// Staying at each vocabulary term, for record r.
+fn spread_rests<'a>(
+    site: &[u8],
+    triples: usize,
+    up: &'a [u8; RECORDS],
+    role: &'a [u8; RECORDS],
+    numbers: &[u8],
+    asked: &mut [u8],
+    ends: &mut [u8],
+    label: Label,
+    r: usize,
+    was: bool,
+) -> bool
+    requires { ⌜ Accepted (now site) triples × Full (now numbers) × Climbs records (now up) (now role) × Whole (now asked) × Bits (now asked) × Bits (now ends) × (r < records) × Tests label r × Nameless label ⌝ }
+    ensures { λ more. ⌜ RestsSought (now (site .entry)) triples (now (up .entry)) (now (role .entry)) (pairs (now (numbers .entry))) label r (marks (now (asked .entry)) (now (ends .entry))) (marks (now (asked .exit)) (now (ends .exit))) was more ⌝ }
+{
+    let mut more = was;
+    let mut k = 0;
+    while k < triples {
+        more = rest_by(site, k, up, role, numbers, asked, ends, label, r, more);
+        k += 1;
+    }
+    more
+}
+
+// Each triple for the step of record r, whose axis takes triples.
+fn spread_axis<'a>(
+    site: &[u8],
+    triples: usize,
+    step: Step,
+    up: &'a [u8; RECORDS],
+    role: &'a [u8; RECORDS],
+    numbers: &[u8],
+    asked: &mut [u8],
+    ends: &mut [u8],
+    r: usize,
+    was: bool,
+) -> bool
+    requires { ⌜ Accepted (now site) triples × Full (now numbers) × Climbs records (now up) (now role) × Whole (now asked) × Bits (now asked) × Bits (now ends) × (r < records) × Tests (step .label) r × (step .axis ≢ 0) × (step .axis ≤ lastAxis) ⌝ }
+    ensures { λ more. ⌜ StepSought (now (site .entry)) triples step (now (up .entry)) (now (role .entry)) (pairs (now (numbers .entry))) r (marks (now (asked .entry)) (now (ends .entry))) (marks (now (asked .exit)) (now (ends .exit))) was more ⌝ }
+{
+    let mut more = was;
+    let mut k = 0;
+    while k < triples {
+        more = seek(site, k, step, up, role, numbers, asked, ends, r, more);
+        k += 1;
+    }
+    more
+}
+
+// The step of record r, whatever its axis: self stays, at its named term or at each vocabulary term.
+fn spread_step<'a>(
+    site: &[u8],
+    triples: usize,
+    step: Step,
+    up: &'a [u8; RECORDS],
+    role: &'a [u8; RECORDS],
+    numbers: &[u8],
+    asked: &mut [u8],
+    ends: &mut [u8],
+    r: usize,
+    was: bool,
+) -> bool
+    requires { ⌜ Accepted (now site) triples × Full (now numbers) × Climbs records (now up) (now role) × Whole (now asked) × Bits (now asked) × Bits (now ends) × (r < records) × Tests (step .label) r × (step .axis ≤ lastAxis) ⌝ }
+    ensures { λ more. ⌜ StepSought (now (site .entry)) triples step (now (up .entry)) (now (role .entry)) (pairs (now (numbers .entry))) r (marks (now (asked .entry)) (now (ends .entry))) (marks (now (asked .exit)) (now (ends .exit))) was more ⌝ }
+{
+    if step.axis != 0 {
+        return spread_axis(site, triples, step, up, role, numbers, asked, ends, r, was);
+    }
+    let label = step.label;
+    if let Label::Term(term) = label {
+        return rest(up, role, numbers, asked, ends, label, r, term, was);
+    }
+    spread_rests(site, triples, up, role, numbers, asked, ends, label, r, was)
+}
+
+// What record r asks for, by its record; `first` is the record of a join's first operand.
+fn spread_record<'a>(
+    site: &[u8],
+    triples: usize,
+    rec: Record,
+    first: usize,
+    up: &'a [u8; RECORDS],
+    role: &'a [u8; RECORDS],
+    numbers: &[u8],
+    asked: &mut [u8],
+    ends: &mut [u8],
+    r: usize,
+    was: bool,
+) -> bool
+    requires { ⌜ Accepted (now site) triples × Full (now numbers) × Climbs records (now up) (now role) × Whole (now asked) × Bits (now asked) × Bits (now ends) × (r < records) × Sits rec r × (first < records) ⌝ }
+    ensures { λ more. ⌜ RecordSought (now (site .entry)) triples rec first (now (up .entry)) (now (role .entry)) (pairs (now (numbers .entry))) r (marks (now (asked .entry)) (now (ends .entry))) (marks (now (asked .exit)) (now (ends .exit))) was more ⌝ }
+{
+    match rec {
+        Record::Step(step) => spread_step(
+            site,
+            triples,
+            step,
+            up,
+            role,
+            numbers,
+            asked,
+            ends,
+            r,
+            was,
+        ),
+        Record::Sequence => spread_row(asked, r, first, was),
+        Record::Choice => {
+            let one = spread_row(asked, r, first, was);
+            spread_row(asked, r, r - 1, one)
+        }
+        Record::Star => {
+            let one = spread_row(asked, r, r - 1, was);
+            spread_rests(
+                site,
+                triples,
+                up,
+                role,
+                numbers,
+                asked,
+                ends,
+                Label::Any,
+                r,
+                one,
+            )
+        }
+    }
+}
+
+// Every record once. False where no mark was added.
+fn sweep<'a>(
+    site: &[u8],
+    triples: usize,
+    rule: &[u8],
+    starts: &[usize; RECORDS],
+    count: usize,
+    up: &'a [u8; RECORDS],
+    role: &'a [u8; RECORDS],
+    first: &'a [u8; RECORDS],
+    numbers: &[u8],
+    asked: &mut [u8],
+    ends: &mut [u8],
+) -> bool
+    requires { ⌜ Ready (now site) triples (now rule) (now starts) count (now up) (now role) (now first) × Full (now numbers) × Whole (now asked) × Bits (now asked) × Bits (now ends) ⌝ }
+    ensures { λ more. ⌜ SoughtOver (now (site .entry)) triples (now (rule .entry)) (now (up .entry)) (now (role .entry)) (now (first .entry)) (pairs (now (numbers .entry))) (marks (now (asked .entry)) (now (ends .entry))) (marks (now (asked .exit)) (now (ends .exit))) more ⌝ }
+{
+    let mut more = false;
+    let mut r = 0;
+    while r < count {
+        let rec = record_at(rule, starts[r]);
+        let operand = first[r] as usize;
+        more = spread_record(
+            site,
+            triples,
+            rec,
+            operand,
+            up,
+            role,
+            numbers,
+            asked,
+            ends,
+            r,
+            more,
+        );
+        r += 1;
+    }
+    more
+}
+
+// Sweeps until one adds no mark.
+fn settle<'a>(
+    site: &[u8],
+    triples: usize,
+    rule: &[u8],
+    starts: &[usize; RECORDS],
+    count: usize,
+    up: &'a [u8; RECORDS],
+    role: &'a [u8; RECORDS],
+    first: &'a [u8; RECORDS],
+    numbers: &[u8],
+    asked: &mut [u8],
+    ends: &mut [u8],
+)
+    requires { ⌜ Ready (now site) triples (now rule) (now starts) count (now up) (now role) (now first) × Full (now numbers) × Whole (now asked) × Bits (now asked) × Bits (now ends) ⌝ }
+    ensures { λ _. ⌜ SettledMarks (now (site .entry)) triples (now (rule .entry)) (now (up .entry)) (now (role .entry)) (now (first .entry)) (pairs (now (numbers .entry))) (marks (now (asked .entry)) (now (ends .entry))) (marks (now (asked .exit)) (now (ends .exit))) ⌝ }
+{
+    while sweep(
+        site,
+        triples,
+        rule,
+        starts,
+        count,
+        up,
+        role,
+        first,
+        numbers,
+        asked,
+        ends,
+    ) {}
+}
+
+// The questions that the whole rule asks at the start, and the ends that it leads to, where a table of ends is lent.
+pub fn ask<'a>(
+    site: &[u8],
+    triples: usize,
+    rule: &[u8],
+    starts: &[usize; RECORDS],
+    count: usize,
+    up: &'a [u8; RECORDS],
+    role: &'a [u8; RECORDS],
+    first: &'a [u8; RECORDS],
+    numbers: &[u8],
+    start: usize,
+    asked: &mut [u8],
+    ends: &mut [u8],
+)
+    requires { ⌜ Ready (now site) triples (now rule) (now starts) count (now up) (now role) (now first) × Full (now numbers) × Whole (now asked) × (0 < count) × (start < terms) ⌝ }
+    ensures { λ _. ⌜ MarkedOver (now (site .entry)) triples (now (rule .entry)) (now (up .entry)) (now (role .entry)) (now (first .entry)) (pairs (now (numbers .entry))) start (length (now (ends .entry))) (marks (now (asked .exit)) (now (ends .exit))) ⌝ }
+{
+    clear(asked);
+    clear_row(ends);
+    mark(asked, count - 1, start, false);
+    settle(
+        site,
+        triples,
+        rule,
+        starts,
+        count,
+        up,
+        role,
+        first,
+        numbers,
+        asked,
+        ends,
+    )
+}
