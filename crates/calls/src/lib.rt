@@ -1,0 +1,39 @@
+// Decide, ends and starts on lent tables, and the ceiling: document 01's calls, for all inputs.
+use records::Refusal;
+
+pub mod admit; // admit.rt: what is refused before any table is touched
+
+// Yes or no, the work figure, and the path's steps (0 on no).
+pub struct Answer {
+    pub yes: bool,
+    pub figure: usize,
+    pub steps: usize,
+}
+
+pub enum Decision {
+    Answer(Answer),
+    Refused(Refusal),
+}
+
+// How many ends, and the work figure.
+pub struct Found {
+    pub ends: usize,
+    pub figure: usize,
+}
+
+pub enum EndList {
+    Found(Found),
+    Refused(Refusal),
+}
+
+// How many starts.
+pub enum StartList {
+    Found(usize),
+    Refused(Refusal),
+}
+
+// The most that a figure can be.
+pub enum Limit {
+    At(usize),
+    Refused(Refusal),
+}
