@@ -15,6 +15,7 @@ use Rattle.asked.proofs.Fair.{zeros}
 use Rattle.asked.proofs.Fit.{Fit}
 use Rattle.asked.proofs.OneMark.{one-whole, one-bits}
 
+-- zeros are bits
 zeros-bits : (n : ℕ) → Bits (replicate n 0)
 unfolding Bits
 zeros-bits n i = omega (arith, zeros n i)

@@ -80,13 +80,13 @@ rested-as : {s : meant.Site} {up role T : List ℕ} {g : Goal} {l : Label} {w : 
 rested-as {s} {g = g} as-empty v p = p .empty s g v refl
 rested-as {s} {g = g} as-step v p = p .self-step s g (at-word v)
 
--- The tables are fit after it, at the subject of a triple.
+-- After a look at staying at the subject of a triple the tables are fit.
 pub rested-fit : (b : List ℕ) {k : ℕ} {x : Triple} → Has b k → x ≡ inCode (tripleOf b (k * tripleWidth)) → {up role T : List ℕ} {l : Label}
     {r : ℕ} {M N : Marks} {was more : Bool} → Rested up role T l r (x .subject) M N was more → Fit M → Fit N
 rested-fit b (n, good, h) here p =
     marking-fit (p .self-step (siteOf b n) anywhere (at-word (word b h (inl (subject-is b here h)))) .reached)
 
--- So it was at the subject and then at the object of triple number k, as the code holds it.
+-- Staying at the subject and then at the object of triple number k, as the code holds it, was looked at.
 pub ends-rested : (b : List ℕ) {k : ℕ} {x : Triple} → x ≡ inCode (tripleOf b (k * tripleWidth)) → {up role T : List ℕ} {l : Label} {r : ℕ}
     {M N P : Marks} {was before more : Bool} → Rested up role T l r (x .subject) M N was before →
     Rested up role T l r (x .object) N P before more → RestedBy b k up role T l r M P was more

@@ -1,4 +1,5 @@
--- Record by record: what the works of a record mark, the sweep marks, and each record seen, nothing asked for is unmarked.
+-- A sweep goes record by record: what the works of a record mark, the sweep marks.
+-- Each record seen, nothing that the rule asks for is unmarked.
 use Prim.Native.Nat.{ℕ, _<_, _≤_}
 use mathlib.Core.Path.{_≡_}
 use mathlib.Core.Bool.{Bool}

@@ -1,4 +1,5 @@
--- A table is filled with 0 from the front, entry by entry, and row by row where each row is lent on to be filled.
+-- A table is filled with 0 from the front: entry by entry, and row by row where each row is lent on to be filled.
+-- A row that was lent is a part of the table, which is spliced back here once, for rows of any width.
 use Prim.Native.Nat.{ℕ, _+_, _*_, _-_, _≤_}
 use mathlib.Core.Path.{_≡_}
 use mathlib.Core.List.{List, _++_, append-nil, append-assoc}
@@ -13,6 +14,7 @@ use borrow.Rule.Slice.PartMut.{midOf, putMid, mid-len}
 abbrev pub Filled : List ℕ → ℕ → List ℕ → Type 0
 Filled d i b = b ≡ replicate i 0 ++ drop i d
 
+-- It is as long as d.
 pub filled-long : (d : List ℕ) (i : ℕ) {b : List ℕ} → i ≤ length d → Filled d i b → length b ≡ length d
 filled-long d i h filled = rw filled (simp (length-append, length-replicate, length-drop) (omega arith))
 

@@ -15,7 +15,6 @@ use Rattle.records.specs.Rules.{RuleChecked, startsOf, Front, refusal}
 use Rattle.fewest.specs.declared.links.Links.{Links}
 use Rattle.fewest.specs.LinksOf.{LinksOf}
 use Rattle.calls.specs.declared.admit.Query.{Query}
-use Rattle.calls.specs.declared.admit.Verdict.{Verdict}
 use Rattle.calls.specs.declared.admit.Verdict.the-variants.{Ready, Refused}
 use Rattle.calls.specs.declared.admit.Admission.{Admission}
 

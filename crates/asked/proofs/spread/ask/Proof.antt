@@ -18,16 +18,19 @@ sub-mark c = search needs
 
 mark-requires : tie.Need-mark-requires
 mark-requires c κs =
-    let pre = c .before .before .before .before .before .before .before .before .before .before .before .before .before .before .pre in
-    let (whole, bits) = cleared-fit (c .before .before .before .before .before .before .before .clear .ensures) in
+    let cleared = c .before .before .before .before .before .before .before in
+    let pre = cleared .before .before .before .before .before .before .before .pre in
+    let (whole, bits) = cleared-fit (cleared .clear .ensures) in
     let few = pre .0 .few in
     (whole, bits, omega arith, pre .4)
 
 settle-requires : tie.Need-settle-requires
 settle-requires c κs =
-    let start = c .before .before .before .before .before .before .before .before .before .before .before .before .before .before .before .before .before .before .before in
-    let (whole, asked, ends) =
-    begun-fit (length (start .args .ends .now)) (c .before .before .before .before .before .before .before .before .before .before .before .before .clear .ensures) (c .before .before .before .before .before .before .before .before .clear-row .ensures) (c .before .before .before .before .mark .ensures) in
+    let marked = c .before .before .before .before in
+    let lent = marked .before .before .before .before in
+    let cleared = lent .before .before .before .before in
+    let start = cleared .before .before .before .before .before .before .before in
+    let (whole, asked, ends) = begun-fit (length (start .args .ends .now)) (cleared .clear .ensures) (lent .clear-row .ensures) (marked .mark .ensures) in
     (start .pre .0, start .pre .1, whole, asked, ends)
 
 same-length : tie.Need-same-length
@@ -38,10 +41,13 @@ same-length-2 c = search needs
 
 returns : tie.Need-returns
 returns c =
-    let start = c .before .before .before .before .before .before .before .before .before .before .before .before .before .before .before .before .before .before .before .before .before .before .before .before in
-    settled-from
-    (rw (← start .pre .0 .counted) (begun-marks (length (start .args .ends .now)) (c .before .before .before .before .before .before .before .before .before .before .before .before .before .before .before .before .before .clear .ensures) (c .before .before .before .before .before .before .before .before .before .before .before .before .before .clear-row .ensures)
-    (c .before .before .before .before .before .before .before .before .before .mark .ensures))) (c .before .before .before .before .settle .ensures)
+    let settled = c .before .before .before .before in
+    let marked = settled .before .before .before .before .before in
+    let lent = marked .before .before .before .before in
+    let cleared = lent .before .before .before .before in
+    let start = cleared .before .before .before .before .before .before .before in
+    let begins = begun-marks (length (start .args .ends .now)) (cleared .clear .ensures) (lent .clear-row .ensures) (marked .mark .ensures) in
+    settled-from (rw (← start .pre .0 .counted) begins) (settled .settle .ensures)
 
 pub ask-spec : {M : Type 1} → statement M
 ask-spec =
