@@ -6,17 +6,18 @@ use mathlib.Core.Bool.{false}
 use mathlib.Core.List.{List, _++_}
 use native.Mathlib.Omega.{arith}
 use lib.ListN.{length, drop}
-use Rattle.meaning.specs.Limits.{terms, records}
+use Rattle.meaning.specs.Limits.{terms, records, none}
 use Rattle.meaning.specs.Site.{Site, Mentioned}
 use Rattle.meaning.specs.Expression.{Expr}
 use Rattle.meaning.specs.Relation.{Rel}
 use Rattle.meaning.specs.Path.{Path, Conforms}
 use Rattle.meaning.specs.Shown.{Shown}
-use Rattle.meaning.specs.Fewest.{Goal}
+use Rattle.meaning.specs.Fewest.{Goal, Fewest}
 use Rattle.meaning.specs.Question.{Asks, Count}
 use Rattle.meaning.proofs.Conforming.{related-iff-path}
 use Rattle.meaning.proofs.Counting.{count-unique}
-use Rattle.meaning.proofs.Greedy.{shown-unique}
+use Rattle.meaning.proofs.Greedy.{shown-unique, shown-fewest}
+use Rattle.meaning.proofs.Ways.{fewest-unique, fewest-some}
 use Rattle.records.specs.declared.Reason.the-variants.{Room}
 use Rattle.records.specs.Sites.{siteOf}
 use Rattle.records.specs.Rules.{refusal}
@@ -32,6 +33,7 @@ use Rattle.calls.specs.Admission.{Asked-of, Admits}
 use Rattle.calls.specs.Tables.{QuestionTable, NumberTable, TermTable, written}
 use Rattle.calls.specs.Promise.{Form, numbersOf, lengthIn, lent, Filled, Decided, refused, no, yes, no-room, Ended, found, Started, Limited, at}
 use Rattle.calls.proofs.Admitted.{refuses-unique, refuses-admits, admits-unique}
+use Rattle.calls.proofs.Fronts.{lent-long}
 use Rattle.calls.proofs.OneTable.{questions-unique, terms-unique, Slice, lent-unique}
 
 -- Two answers to one input are for one site and one expression; so what these determine is the same in both.
@@ -64,10 +66,25 @@ module _ {F : Type 0} {s r : List ℕ} {qs : List Asked-of} {n m : ℕ} {e g : E
       Shown (λ o. Conforms (siteOf s m) g z o v) y → x ≡ y
   same-path z v {y = y} a b = shown-unique a (here (λ S h. Shown (λ o. Conforms S h z o v) y) b)
 
+  -- the fewest steps are those of the path shown, and one number
+  same-steps : (z v : ℕ) {x : Path} {k : ℕ} → Shown (λ o. Conforms (siteOf s n) e z o v) x →
+      Fewest (λ o. Conforms (siteOf s m) g z o v) k → length x ≡ k
+  same-steps z v {k = k} a b = shown-fewest (here (λ S h. Fewest (λ o. Conforms S h z o v) k) b) a
+
+  same-fewest : (z v : ℕ) {j k : ℕ} → Fewest (λ o. Conforms (siteOf s n) e z o v) j →
+      Fewest (λ o. Conforms (siteOf s m) g z o v) k → j ≡ k
+  same-fewest z v {k = k} a b = fewest-unique a (here (λ S h. Fewest (λ o. Conforms S h z o v) k) b)
+
   -- a room that holds the path is not below it
-  room-holds : (f : Form) (z v : ℕ) {x y : Path} {k : ℕ} → Shown (λ o. Conforms (siteOf s n) e z o v) x →
-      Shown (λ o. Conforms (siteOf s m) g z o v) y → length (lent f (written x)) ≤ k → k < length (lent f (written y)) → ⊥
-  room-holds f z v a b h l = let k = rw (same-path z v a b) at h in omega arith
+  room-holds : (f : Form) (z v : ℕ) {x : Path} {j k : ℕ} → Shown (λ o. Conforms (siteOf s n) e z o v) x →
+      Fewest (λ o. Conforms (siteOf s m) g z o v) k → length (lent f (written x)) ≤ j → j < lengthIn f (3 * k) → ⊥
+  room-holds f z v {x} a b h l = let i = rw (lent-long f x, same-steps z v a b) at h in omega arith
+
+  -- there are no fewest steps where the pair is not related
+  not-some : (z v : ℕ) {k : ℕ} → (Rel (siteOf s n) e z v → ⊥) → Fewest (λ o. Conforms (siteOf s m) g z o v) k → k < none → ⊥
+  not-some z v never b h =
+      let (x, conforms) = fewest-some b .0 h in
+      never (related-iff-path (siteOf s n) e z v .1 (x, here (λ S h. Conforms S h z x v) conforms))
 
   -- no path is shown where the pair is not related
   not-shown : (z v : ℕ) {x : Path} → (Rel (siteOf s n) e z v → ⊥) → Shown (λ o. Conforms (siteOf s m) g z o v) x → ⊥
@@ -81,14 +98,14 @@ module _ {f : Form} {s r a n m a₁ n₁ m₁ a₂ n₂ m₂ : List ℕ} where
     decide-unique (refused p a n m) (refused q b o l) i j = (ap decision.Refused (refuses-unique p q), a ∙ sym b, n ∙ sym o, m ∙ sym l)
     decide-unique (refused p a n m) (no q t d never same) i j = absurd (refuses-admits p q)
     decide-unique (refused p a n m) (yes q t d shown room same) i j = absurd (refuses-admits p q)
-    decide-unique (refused p a n m) (no-room q t shown room same) i j = absurd (refuses-admits p q)
+    decide-unique (refused p a n m) (no-room q t fewest some room same) i j = absurd (refuses-admits p q)
     decide-unique (no p t c never same) (refused q b o l) i j = absurd (refuses-admits q p)
     decide-unique (no p t c never same) (no q t′ c′ never′ same′) i j =
         let (asked, numbers) = same-filled p q f i j t t′ in
         let figure = same-count p q (λ S e. Asks S e z) c c′ in
         (ap (λ k. decision.Answer (record { yes = false; figure = k; steps = 0 })) figure, asked, numbers, same ∙ sym same′)
     decide-unique (no p t c never same) (yes q t′ c′ shown room same′) i j = absurd (not-shown p q z v never shown)
-    decide-unique (no p t c never same) (no-room q t′ shown room same′) i j = absurd (not-shown p q z v never shown)
+    decide-unique (no p t c never same) (no-room q t′ fewest some room same′) i j = absurd (not-some p q z v never fewest some)
     decide-unique (yes p t c shown room same) (refused q b o l) i j = absurd (refuses-admits q p)
     decide-unique (yes p t c shown room same) (no q t′ c′ never same′) i j = absurd (not-shown q p z v never shown)
     decide-unique (yes p t c shown room same) (yes q t′ c′ shown′ room′ same′) i j =
@@ -96,13 +113,13 @@ module _ {f : Form} {s r a n m a₁ n₁ m₁ a₂ n₂ m₂ : List ℕ} where
         let figure = same-count p q (λ S e. Asks S e z) c c′ in
         let path = same-path p q z v shown shown′ in
         (cc, asked, numbers, same ∙ ap (λ o. lent f (written o) ++ drop (length (lent f (written o))) m) path ∙ sym same′)
-    decide-unique (yes p t c shown room same) (no-room q t′ shown′ short same′) i j = absurd (room-holds p q f z v shown shown′ room short)
-    decide-unique (no-room p t shown short same) (refused q b o l) i j = absurd (refuses-admits q p)
-    decide-unique (no-room p t shown short same) (no q t′ c′ never same′) i j = absurd (not-shown q p z v never shown)
-    decide-unique (no-room p t shown short same) (yes q t′ c′ shown′ room same′) i j = absurd (room-holds q p f z v shown′ shown room short)
-    decide-unique (no-room p t shown short same) (no-room q t′ shown′ short′ same′) i j =
+    decide-unique (yes p t c shown room same) (no-room q t′ fewest some short same′) i j = absurd (room-holds p q f z v shown fewest room short)
+    decide-unique (no-room p t fewest some short same) (refused q b o l) i j = absurd (refuses-admits q p)
+    decide-unique (no-room p t fewest some short same) (no q t′ c′ never same′) i j = absurd (not-some q p z v never fewest some)
+    decide-unique (no-room p t fewest some short same) (yes q t′ c′ shown room same′) i j = absurd (room-holds q p f z v shown fewest room short)
+    decide-unique (no-room p t fewest some short same) (no-room q t′ fewest′ some′ short′ same′) i j =
         let (asked, numbers) = same-filled p q f i j t t′ in
-        (ap (λ o. decision.Refused (refusal Room (length o))) (same-path p q z v shown shown′), asked, numbers, same ∙ sym same′)
+        (ap (λ k. decision.Refused (refusal Room k)) (same-fewest p q z v fewest fewest′), asked, numbers, same ∙ sym same′)
 
   -- Listing the ends has one result, and leaves one content in the three tables.
   pub ends-unique : {z : ℕ} {x y : EndList} → Ended f s r z a n m a₁ n₁ m₁ x → Ended f s r z a n m a₂ n₂ m₂ y →

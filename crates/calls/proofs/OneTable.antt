@@ -70,7 +70,7 @@ abbrev pub Bytes : List ℕ → Type 0
 Bytes b = (i : ℕ) → getD b i 0 < base
 
 -- bytes, an even number of them, are the numbers that they hold, spread out
-spread-pairs : (n : ℕ) (b : List ℕ) → length b ≡ n + n → Bytes b → spread (pairs b) ≡ b
+pub spread-pairs : (n : ℕ) (b : List ℕ) → length b ≡ n + n → Bytes b → spread (pairs b) ≡ b
 unfolding spread pairs
 spread-pairs n [] long small = refl
 spread-pairs n (h ∷ []) long small = absurd (omega arith)

@@ -1,9 +1,11 @@
 -- What the functions inside the calls promise to one another. No caller of ours sees these.
 -- Admission is told in the order of document 01; the rest of a call stands on `Given`.
-use Prim.Native.Nat.{ℕ, _<_, _≤_}
+use Prim.Native.Nat.{ℕ, _*_, _<_, _≤_, _-_}
 use mathlib.Core.Path.{_≡_}
 use mathlib.Core.List.{List}
-use Rattle.meaning.specs.Limits.{terms}
+use lib.ListN.{replicate}
+use Rattle.meaning.specs.Limits.{terms, records, none}
+use Rattle.meaning.specs.Fewest.{Goal, anywhere, end}
 use Rattle.meaning.specs.Site.{Mentioned}
 use Rattle.meaning.specs.Question.{Count}
 use Rattle.records.specs.declared.Refusal.{Refusal}
@@ -14,9 +16,18 @@ use Rattle.records.specs.Sites.{Checked, siteOf}
 use Rattle.records.specs.Rules.{RuleChecked, startsOf, Front, refusal}
 use Rattle.fewest.specs.declared.links.Links.{Links}
 use Rattle.fewest.specs.LinksOf.{LinksOf}
+use Rattle.fewest.specs.Pairs.{pairs}
+use Rattle.fewest.specs.Sweep.{sum}
+use Rattle.fewest.specs.Work.{SettledOver}
+use Rattle.asked.specs.Mark.{marks}
+use Rattle.asked.specs.Seek.{MarkedOver}
+use Rattle.calls.specs.declared.Found.{Found}
 use Rattle.calls.specs.declared.admit.Query.{Query}
 use Rattle.calls.specs.declared.admit.Verdict.the-variants.{Ready, Refused}
 use Rattle.calls.specs.declared.admit.Admission.{Admission}
+use Rattle.fewest.specs.Told.{Told}
+use Rattle.calls.specs.declared.Decision.{Decision}
+use Rattle.calls.specs.Promise.{Form, Fits, Decided}
 
 -- a site of n triples and a rule of c records were read, and these are the rule's places and links
 pub record Given (s r : List ℕ) (n c : ℕ) (starts : List ℕ) (L : Links) : Type 0 where
@@ -46,3 +57,25 @@ pub record Admitted (s r : List ℕ) (z v : ℕ) (a : Admission) : Type 0 where
 -- so many different terms are mentioned
 abbrev pub Counted : List ℕ → ℕ → ℕ → Type 0
 Counted s n d = Count (Mentioned (siteOf s n)) d
+
+-- the tables that an evaluation leaves: the numbers settled from none, and the marks from the whole rule at z
+pub record Evaluated (s : List ℕ) (n : ℕ) (r up role first : List ℕ) (g : Goal) (z k : ℕ) (asked numbers ends : List ℕ) : Type 0 where
+  pub settled : SettledOver s n r up role first g (replicate (records * terms) none) (pairs numbers)
+  pub marked : MarkedOver s n r up role first (pairs numbers) z k (marks asked ends)
+
+-- the tables that a list of ends leaves, and what it counts in them
+pub record EndsListed (s : List ℕ) (n : ℕ) (r : List ℕ) (L : Links) (z k : ℕ) (asked numbers third : List ℕ) (x : Found) : Type 0 where
+  pub evaluated : Evaluated s n r (L .up) (L .role) (L .first) anywhere z k asked numbers third
+  pub ends : x .ends ≡ sum third
+  pub figure : x .figure ≡ sum asked
+
+-- what listing the starts of v leaves: the numbers to v settled from none, the bits of the whole rule's row, and a byte table
+-- of 0
+pub record Listed (s : List ℕ) (n : ℕ) (r : List ℕ) (c : ℕ) (up role first : List ℕ) (v : ℕ) (asked numbers third : List ℕ) : Type 0 where
+  pub settled : SettledOver s n r up role first (end v) (replicate (records * terms) none) (pairs numbers)
+  pub told : Told (pairs numbers) (c - 1) terms third
+  pub clear : asked ≡ replicate (records * terms) 0
+
+-- what is left of a decision once the tables are filled: it is decided so, whatever the tables held before
+abbrev pub Finished : (f : Form) (s r : List ℕ) (z v : ℕ) (asked numbers room room′ : List ℕ) → Decision → Type 0
+Finished f s r z v asked numbers room room′ d = (a n : List ℕ) → Fits f a n → Decided f s r z v a n room asked numbers room′ d

@@ -3,4 +3,5 @@ pub mod Admission
 pub mod Tables
 pub mod Promise
 pub mod Inner
+pub mod Written
 pub mod Values

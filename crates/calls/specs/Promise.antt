@@ -5,14 +5,14 @@ use mathlib.Core.Path.{_≡_}
 use mathlib.Core.Bool.{true, false}
 use mathlib.Core.List.{List, [], _∷_, _++_}
 use lib.ListN.{length, drop, replicate}
-use Rattle.meaning.specs.Limits.{terms, records}
+use Rattle.meaning.specs.Limits.{terms, records, none}
 use Rattle.meaning.specs.Site.{Site, Mentioned}
 use Rattle.meaning.specs.Expression.{Expr, size}
 use Rattle.meaning.specs.Relation.{Rel}
 use Rattle.meaning.specs.Path.{Path, Conforms}
 use Rattle.meaning.specs.Shown.{Shown}
-use Rattle.meaning.specs.Fewest.{Goal, end, anywhere}
-use Rattle.meaning.specs.Question.{Figure, Count}
+use Rattle.meaning.specs.Fewest.{Goal, end, anywhere, Fewest}
+use Rattle.meaning.specs.Question.{Figure, Count, Ends, Starts}
 use Rattle.records.specs.declared.Refusal.{Refusal}
 use Rattle.records.specs.declared.Reason.the-variants.{Room}
 use Rattle.records.specs.Sites.{siteOf}
@@ -86,10 +86,10 @@ pub data Decided (f : Form) (s r : List ℕ) (z v : ℕ) (asked numbers room ask
       Shown (λ q. Conforms (siteOf s n) e z q v) p → length (lent f (written p)) ≤ length room →
       room′ ≡ lent f (written p) ++ drop (length (lent f (written p))) room →
       Decided f s r z v asked numbers room asked′ numbers′ room′ (decision.Answer (record { yes = true; figure = c; steps = length p }))
-  no-room : {n : ℕ} {e : Expr} {p : Path} → Admits (Fits f asked numbers × RoomFits f room) s r (starting z ∷ (ending v ∷ [])) n e →
+  no-room : {n k : ℕ} {e : Expr} → Admits (Fits f asked numbers × RoomFits f room) s r (starting z ∷ (ending v ∷ [])) n e →
       Filled f (siteOf s n) e z (end v) asked′ numbers′ →
-      Shown (λ q. Conforms (siteOf s n) e z q v) p → length room < length (lent f (written p)) → room′ ≡ room →
-      Decided f s r z v asked numbers room asked′ numbers′ room′ (decision.Refused (refusal Room (length p)))
+      Fewest (λ q. Conforms (siteOf s n) e z q v) k → k < none → length room < lengthIn f (3 * k) → room′ ≡ room →
+      Decided f s r z v asked numbers room asked′ numbers′ room′ (decision.Refused (refusal Room k))
 
 -- Listing the ends of a start: the rule's own body may finish anywhere.
 pub data Ended (f : Form) (s r : List ℕ) (z : ℕ) (asked numbers third asked′ numbers′ third′ : List ℕ) : EndList → Type 0 where
@@ -98,7 +98,7 @@ pub data Ended (f : Form) (s r : List ℕ) (z : ℕ) (asked numbers third asked�
       Ended f s r z asked numbers third asked′ numbers′ third′ (ends.Refused x)
   found : {n c k : ℕ} {e : Expr} → Admits (Fits f asked numbers × (length third ≡ terms)) s r (starting z ∷ []) n e →
       Filled f (siteOf s n) e z anywhere asked′ numbers′ →
-      TermTable (Rel (siteOf s n) e z) third′ → Count (Rel (siteOf s n) e z) k → Figure (siteOf s n) e z c →
+      TermTable (Ends (siteOf s n) e z) third′ → Count (Ends (siteOf s n) e z) k → Figure (siteOf s n) e z c →
       Ended f s r z asked numbers third asked′ numbers′ third′ (ends.Found (record { ends = k; figure = c }))
 
 -- Listing the starts of an end: no question is asked, and the byte table becomes all 0.
@@ -109,7 +109,7 @@ pub data Started (f : Form) (s r : List ℕ) (v : ℕ) (asked numbers third aske
   found : {n k : ℕ} {e : Expr} → Admits (Fits f asked numbers × (length third ≡ terms)) s r (ending v ∷ []) n e →
       asked′ ≡ replicate (records * terms) 0 →
       length numbers′ ≡ lengthIn f (records * terms) → NumberTable (siteOf s n) (end v) e (numbersOf f numbers′) →
-      TermTable (λ t. Rel (siteOf s n) e t v) third′ → Count (λ t. (t < terms) × Rel (siteOf s n) e t v) k →
+      TermTable (Starts (siteOf s n) e v) third′ → Count (λ t. (t < terms) × Starts (siteOf s n) e v t) k →
       Started f s r v asked numbers third asked′ numbers′ third′ (starts.Found k)
 
 -- The ceiling of a site and a rule: records times one more than the different terms of the site.

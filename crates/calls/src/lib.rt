@@ -2,6 +2,13 @@
 use records::Refusal;
 
 pub mod admit; // admit.rt: what is refused before any table is touched
+pub mod evaluate; // evaluate.rt: both tables
+pub mod write; // write.rt: the path into a room, the numbers out of their bytes
+pub mod decide; // decide.rt: one pair decided, with numbers and room lent as bytes
+pub mod decide_words; // decide_words.rt: the same, with numbers and room lent as 16-bit numbers
+pub mod lists; // lists.rt: all ends
+pub mod origins; // origins.rt: all starts
+pub mod ceiling; // ceiling.rt: the most that a figure can be
 
 // Yes or no, the work figure, and the path's steps (0 on no).
 pub struct Answer {

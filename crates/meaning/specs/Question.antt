@@ -50,3 +50,10 @@ pub record Tells (P : Type 0) (b : ℕ) : Type 0 where
 -- the work figure: the number of different questions asked once the whole rule is asked at the start
 abbrev pub Figure : Site → Expr → ℕ → ℕ → Type 0
 Figure s rule t n = Count (Asks s rule t) n
+
+-- the ends of a start are the terms that the rule relates it to, and the starts of an end those that it relates to it
+abbrev pub Ends : Site → Expr → ℕ → ℕ → Type 0
+Ends s rule t u = Rel s rule t u
+
+abbrev pub Starts : Site → Expr → ℕ → ℕ → Type 0
+Starts s rule u t = Rel s rule t u

@@ -1,0 +1,79 @@
+-- `calls::lists::ends_bytes` meets its contract: the lengths, then the admission, then the tables decide.
+-- The reasoning is in `Listing`.
+use mathlib.Core.Path.{_≡_, refl, _∙_}
+use lib.ListN.{length}
+use borrow.Author.Needs.{needs}
+use borrow.Author.Tests.{not-true, not-false}
+use denote.Ref.{now}
+use Rattle.meaning.specs.Limits.{terms, records}
+use Rattle.path.specs.Tells.{Tells}
+use Rattle.path.proofs.Telling.{told, told-not}
+use Rattle.calls.specs.Promise.{as-bytes, Fits}
+use Rattle.calls.proofs.Listing.{fitting, may-list, ends-short, ends-turned, ends-listed}
+use Rattle.calls.proofs.lists.ends_bytes.Statement.{statement}
+use Rattle.calls.proofs.lists.ends_bytes.Tie as tie
+
+-- what the lengths tell
+lengths : (c : tie.After-fit) → let args = c .before .before .before .before .before .before .args in
+    Tells (Fits as-bytes (now (args .asked)) (now (args .numbers)) × (length (now (args .third)) ≡ terms)) (c .fit .result)
+unfolding terms records
+lengths c = let args = c .before .before .before .before .before .before .args in fitting as-bytes (now (args .asked)) (now (args .numbers)) (now (args .third)) (c .fit .ensures)
+
+fits : (c : tie.Else1) → let args = c .before .before .before .before .before .before .before .args in
+    Fits as-bytes (now (args .asked)) (now (args .numbers)) × (length (now (args .third)) ≡ terms)
+fits c = told (lengths (c .before)) (not-false _ (c .if1 .left))
+
+fit-requires : tie.Need-fit-requires
+fit-requires c κs = search needs
+
+returns : tie.Need-returns
+returns c = ends-short as-bytes (told-not (lengths (c .before)) (not-true _ (c .if1 .taken)))
+
+admit-requires : tie.Need-admit-requires
+admit-requires c κs = search needs
+
+enum-known-verdict : tie.Need-enum-known-verdict
+enum-known-verdict c = search needs
+
+list-requires : tie.Need-list-requires
+list-requires c κs =
+    let lent = fits (c .before .before .before .before .before .before .before .before .before .before .before .before .before .before) .0 in
+    may-list _ _ (lent .asked-fits) (lent .numbers-fit) (c .before .before .before .before .before .before .before .before .before .before .before .before .before .admit .ensures .ready _ (c .before .before .before .before .before .before .before .before .before .verdict .given .1))
+
+enum-known-verdict-2 : tie.Need-enum-known-verdict-2
+enum-known-verdict-2 c = search needs
+
+same-length : tie.Need-same-length
+same-length c = search needs
+
+same-length-2 : tie.Need-same-length-2
+same-length-2 c = search needs
+
+same-length-3 : tie.Need-same-length-3
+same-length-3 c = search needs
+
+returns-2 : tie.Need-returns-2
+returns-2 c =
+    let lent = fits (c .before .before .before .before .before .before .before .before .before .before .before .before .before .before .before .before .before .before .before .before .before) in
+    let tables = c .before .before .before .before .before .before .list .kept .1 .1 .1 .1 .1 .1 .1 .1 .1 .1 in
+    let full = tables .0 ∙ lent .0 .numbers-fit in
+    ends-listed as-bytes lent (c .before .before .before .before .before .before .before .before .before .before .before .before .before .before .before .before .before .before .before .before .admit .ensures .ready _ (c .before .before .before .before .before .before .before .before .before .before .before .before .before .before .before .before .verdict .given .1)) (c .before .before .before .before .before .before .list .ensures) full (tables .1 .0 ∙ lent .1) full refl
+
+returns-3 : tie.Need-returns-3
+returns-3 c = ends-turned as-bytes (fits (c .before .before .before .before .before .before)) (c .before .before .before .before .before .admit .ensures .refused _ (c .before .verdict2 .given .1))
+
+pub ends-bytes-spec : {M : Type 1} → statement M
+ends-bytes-spec =
+    tie.close
+    (tie.spec
+    fit-requires
+    returns
+    admit-requires
+    enum-known-verdict
+    list-requires
+    enum-known-verdict-2
+    same-length
+    same-length-2
+    same-length-3
+    returns-2
+    returns-3)
