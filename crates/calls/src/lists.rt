@@ -27,14 +27,14 @@ const ENTRIES: usize = RECORDS * TERMS;
 
 const BYTES: usize = ENTRIES + ENTRIES;
 
-// Whether the lent tables have their lengths, where the numbers take so much.
-fn fit(asked: usize, numbers: usize, third: usize, room: usize) -> bool
-    ensures { λ r. ⌜ Tells ((asked ≡ records * terms) × (numbers ≡ room) × (third ≡ terms)) r ⌝ }
+// Whether the lent tables have their lengths, where that of the numbers is given.
+fn fit(asked: usize, numbers: usize, third: usize, long: usize) -> bool
+    ensures { λ r. ⌜ Tells ((asked ≡ records * terms) × (numbers ≡ long) × (third ≡ terms)) r ⌝ }
 {
     if asked != ENTRIES {
         return false;
     }
-    if numbers != room {
+    if numbers != long {
         return false;
     }
     third == TERMS

@@ -1,5 +1,6 @@
 -- `calls::lists::fit` meets its contract: each length is compared, and the first that differs says no.
 use native.Mathlib.Omega.{arith}
+use borrow.Author.Needs.{needs}
 use Rattle.meaning.specs.Limits.{terms, records}
 use Rattle.path.specs.Tells.{fails}
 use Rattle.calls.proofs.Listing.{third-tells}
