@@ -1,4 +1,4 @@
-// Sweeps over the byte table: row by row, record by record, until one adds no mark.
+// Sweeps over the byte table: row by row, down the tree of the rule's records, until one adds no mark.
 use crate::mark::is_marked;
 use crate::mark::mark;
 use crate::seek::rest;
@@ -8,6 +8,7 @@ use records::RECORDS;
 use records::Record;
 use records::Step;
 use records::TERMS;
+use records::rule::operands_of;
 use records::rule::record_at;
 use records::site::triple_at;
 ghost use mathlib.Core.Path.{_≡_};
@@ -20,9 +21,9 @@ ghost use Rattle.records.specs.Rules.{lastAxis};
 ghost use Rattle.fewest.specs.Pairs.{pairs};
 ghost use Rattle.fewest.specs.Frame.{Climbs};
 ghost use Rattle.fewest.specs.Table.{Full};
-ghost use Rattle.fewest.specs.Work.{Tests, Has, Nameless, Sits, Ready};
+ghost use Rattle.fewest.specs.Work.{Tests, Has, Nameless, Sits, Ready, ReadyAt};
 ghost use Rattle.asked.specs.Mark.{marks};
-ghost use Rattle.asked.specs.Seek.{Whole, Bits, Entered, RowSought, RestedBy, RestsSought, StepSought, RecordSought, SoughtOver, SettledMarks, MarkedOver};
+ghost use Rattle.asked.specs.Seek.{Whole, Bits, Entered, RowSought, RestedBy, RestsSought, StepSought, RecordSought, SoughtAt, SoughtUnder, SoughtOver, SettledMarks, MarkedOver};
 
 // A row of the byte table is filled with 0.
 fn clear_row(row: &mut [u8])
@@ -224,7 +225,126 @@ fn spread_record<'a>(
     }
 }
 
-// Every record once. False where no mark was added.
+// What record r of the rule asks for.
+fn spread_at<'a>(
+    site: &[u8],
+    triples: usize,
+    rule: &[u8],
+    starts: &[usize; RECORDS],
+    up: &'a [u8; RECORDS],
+    role: &'a [u8; RECORDS],
+    first: &'a [u8; RECORDS],
+    numbers: &[u8],
+    asked: &mut [u8],
+    ends: &mut [u8],
+    r: usize,
+    was: bool,
+) -> bool
+    requires { ⌜ ReadyAt (now site) triples (now rule) (now starts) (now up) (now role) (now first) r × Full (now numbers) × Whole (now asked) × Bits (now asked) × Bits (now ends) ⌝ }
+    ensures { λ more. ⌜ SoughtAt (now (site .entry)) triples (now (rule .entry)) (now (up .entry)) (now (role .entry)) (now (first .entry)) (pairs (now (numbers .entry))) r (marks (now (asked .entry)) (now (ends .entry))) (marks (now (asked .exit)) (now (ends .exit))) was more ⌝ }
+{
+    let rec = record_at(rule, starts[r]);
+    let operand = first[r] as usize;
+    spread_record(
+        site,
+        triples,
+        rec,
+        operand,
+        up,
+        role,
+        numbers,
+        asked,
+        ends,
+        r,
+        was,
+    )
+}
+
+// What all that stands under record r asks for: the record itself, what stands under its first operand, then under its
+// second; a step before its test. A mark is handed on to the operands, and from a first operand to the second.
+fn spread_under<'a>(
+    site: &[u8],
+    triples: usize,
+    rule: &[u8],
+    starts: &[usize; RECORDS],
+    up: &'a [u8; RECORDS],
+    role: &'a [u8; RECORDS],
+    first: &'a [u8; RECORDS],
+    numbers: &[u8],
+    asked: &mut [u8],
+    ends: &mut [u8],
+    r: usize,
+    was: bool,
+) -> bool
+    requires { ⌜ ReadyAt (now site) triples (now rule) (now starts) (now up) (now role) (now first) r × Full (now numbers) × Whole (now asked) × Bits (now asked) × Bits (now ends) ⌝ }
+    ensures { λ more. ⌜ SoughtUnder (now (site .entry)) triples (now (rule .entry)) (now (up .entry)) (now (role .entry)) (now (first .entry)) (pairs (now (numbers .entry))) r (marks (now (asked .entry)) (now (ends .entry))) (marks (now (asked .exit)) (now (ends .exit))) was more ⌝ }
+{
+    let own = spread_at(
+        site,
+        triples,
+        rule,
+        starts,
+        up,
+        role,
+        first,
+        numbers,
+        asked,
+        ends,
+        r,
+        was,
+    );
+    let taken = operands_of(record_at(rule, starts[r]));
+    if taken == 0 {
+        return own;
+    }
+    if taken == 1 {
+        return spread_under(
+            site,
+            triples,
+            rule,
+            starts,
+            up,
+            role,
+            first,
+            numbers,
+            asked,
+            ends,
+            r - 1,
+            own,
+        );
+    }
+    let operand = first[r] as usize;
+    let one = spread_under(
+        site,
+        triples,
+        rule,
+        starts,
+        up,
+        role,
+        first,
+        numbers,
+        asked,
+        ends,
+        operand,
+        own,
+    );
+    spread_under(
+        site,
+        triples,
+        rule,
+        starts,
+        up,
+        role,
+        first,
+        numbers,
+        asked,
+        ends,
+        r - 1,
+        one,
+    )
+}
+
+// Every record once, from the whole rule down. False where no mark was added.
 fn sweep<'a>(
     site: &[u8],
     triples: usize,
@@ -241,27 +361,20 @@ fn sweep<'a>(
     requires { ⌜ Ready (now site) triples (now rule) (now starts) count (now up) (now role) (now first) × Full (now numbers) × Whole (now asked) × Bits (now asked) × Bits (now ends) ⌝ }
     ensures { λ more. ⌜ SoughtOver (now (site .entry)) triples (now (rule .entry)) (now (up .entry)) (now (role .entry)) (now (first .entry)) (pairs (now (numbers .entry))) (marks (now (asked .entry)) (now (ends .entry))) (marks (now (asked .exit)) (now (ends .exit))) more ⌝ }
 {
-    let mut more = false;
-    let mut r = 0;
-    while r < count {
-        let rec = record_at(rule, starts[r]);
-        let operand = first[r] as usize;
-        more = spread_record(
-            site,
-            triples,
-            rec,
-            operand,
-            up,
-            role,
-            numbers,
-            asked,
-            ends,
-            r,
-            more,
-        );
-        r += 1;
-    }
-    more
+    spread_under(
+        site,
+        triples,
+        rule,
+        starts,
+        up,
+        role,
+        first,
+        numbers,
+        asked,
+        ends,
+        count - 1,
+        false,
+    )
 }
 
 // Sweeps until one adds no mark.

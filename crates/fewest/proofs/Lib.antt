@@ -18,5 +18,6 @@ pub mod ByTriples
 pub mod ByRecords
 pub mod Operands
 pub mod Linking
+pub mod Under
 pub mod Readiness
 pub mod Telling

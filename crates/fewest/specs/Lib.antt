@@ -8,4 +8,5 @@ pub mod Bounded
 pub mod Table
 pub mod Told
 pub mod Sweep
+pub mod Under
 pub mod Work

@@ -10,7 +10,7 @@ use lib.Dec.{eqb, ltb}
 use Rattle.meaning.specs.Limits.{terms, records, none}
 use Rattle.meaning.specs.Site as meant
 use Rattle.meaning.specs.Move.{Axis, self, Move, any, only}
-use Rattle.meaning.specs.Expression.{starring}
+use Rattle.meaning.specs.Expression.{Rec, starring}
 use Rattle.meaning.specs.Fewest.{end, anywhere}
 use Rattle.meaning.specs.Fewest as meaning
 use Rattle.records.specs.declared.Triple.{Triple}
@@ -27,6 +27,7 @@ use Rattle.fewest.specs.declared.look.Moved.{Moved}
 use Rattle.fewest.specs.Frame.{as-round, Climbs, Frame, frame}
 use Rattle.fewest.specs.Offer.{view, Continues, Work, stepping, proving, copying, resting, worksOf, Offer, Lowers, Quiet, Settles, Settled}
 use Rattle.fewest.specs.Sweep.{sum, Swept}
+use Rattle.fewest.specs.Under.{Rooted, SeenUnder}
 
 -- the code's goal is the meaning's
 abbrev pub goalOf : Goal → meaning.Goal
@@ -163,7 +164,7 @@ abbrev pub RecordSwept : List ℕ → ℕ → Record → ℕ → List ℕ → Li
 RecordSwept b n x f up role g r T T′ was now =
     WorksSwept sum (λ w. Lowers (frame (siteOf b n) up role g) w r) (λ w. Quiet (frame (siteOf b n) up role g) w r) (worksOf (recOf x) r f) T T′ was now
 
--- what the sweeps stand on: a good site, the rule's records at their places, and links that climb
+-- what the sweeps stand on: a good site, the rule's records at their places, links that climb, and one tree of records
 pub record Ready (site : List ℕ) (n : ℕ) (rule starts : List ℕ) (count : ℕ) (up role first : List ℕ) : Type 0 where
   pub good : Accepted site n
   pub climbs : Climbs records up role
@@ -172,6 +173,26 @@ pub record Ready (site : List ℕ) (n : ℕ) (rule starts : List ℕ) (count : �
   pub firsts : (r : ℕ) → r < count → getD first r 0 < records
   pub reads : (r : ℕ) → r < count → recAt rule (getD starts r 0) ≡ getD (recordsOf rule) r starring
   pub sits : (r : ℕ) → r < count → Sits (recordAt rule (getD starts r 0)) r
+  pub tree : Rooted (recordsOf rule) first
+
+-- the same, and r is one of the records
+abbrev pub ReadyAt : List ℕ → ℕ → List ℕ → List ℕ → List ℕ → List ℕ → List ℕ → ℕ → Type 0
+ReadyAt site n rule starts up role first r = (count : ℕ) × Ready site n rule starts count up role first × (r < count)
+
+-- nothing that the works of record r offer is lower
+abbrev pub RecordQuiet : Frame → List Rec → List ℕ → ℕ → List ℕ → Type 0
+RecordQuiet F rs first r X = (w : Work) → List·Memᴰ w (worksOf (getD rs r starring) r (getD first r 0)) → Quiet F w r X
+
+-- record r of the rule was swept, and each record under it
+abbrev pub SweptAt : List ℕ → ℕ → List ℕ → List ℕ → List ℕ → List ℕ → meaning.Goal → ℕ → List ℕ → List ℕ → Bool → Bool → Type 0
+SweptAt b n rule up role first g r T T′ was now =
+    let F = frame (siteOf b n) up role g in
+    Swept sum (Settles F (recordsOf rule) first) (RecordQuiet F (recordsOf rule) first r) T T′ was now
+
+abbrev pub SweptUnder : List ℕ → ℕ → List ℕ → List ℕ → List ℕ → List ℕ → meaning.Goal → ℕ → List ℕ → List ℕ → Bool → Bool → Type 0
+SweptUnder b n rule up role first g r T T′ was now =
+    let F = frame (siteOf b n) up role g in
+    SeenUnder sum (Settles F (recordsOf rule) first) (RecordQuiet F (recordsOf rule) first) (recordsOf rule) first r T T′ was now
 
 abbrev pub SweptOver : List ℕ → ℕ → List ℕ → List ℕ → List ℕ → List ℕ → meaning.Goal → List ℕ → List ℕ → Bool → Type 0
 SweptOver b n rule up role first g T T′ now =

@@ -1,4 +1,4 @@
-// Sweeps over the table: row by row, record by record, until one changes nothing.
+// Sweeps over the table: row by row, down the tree of the rule's records, until one changes nothing.
 use crate::Goal;
 use crate::look::look;
 use crate::look::rest;
@@ -9,6 +9,7 @@ use records::RECORDS;
 use records::Record;
 use records::Step;
 use records::TERMS;
+use records::rule::operands_of;
 use records::rule::record_at;
 use records::site::triple_at;
 ghost use mathlib.Core.Path.{_≡_};
@@ -19,7 +20,7 @@ ghost use Rattle.records.specs.Sites.{Accepted};
 ghost use Rattle.fewest.specs.Pairs.{pairs};
 ghost use Rattle.fewest.specs.Frame.{Climbs};
 ghost use Rattle.fewest.specs.Table.{Full};
-ghost use Rattle.fewest.specs.Work.{goalOf, Tests, Has, RowSwept, RestedBy, RestsSwept, AxisSwept, StepSwept, Sits, RecordSwept, Ready, SweptOver, SettledOver};
+ghost use Rattle.fewest.specs.Work.{goalOf, Tests, Has, RowSwept, RestedBy, RestsSwept, AxisSwept, StepSwept, Sits, RecordSwept, Ready, ReadyAt, SweptAt, SweptUnder, SweptOver, SettledOver};
 
 // Row r is lowered to row a, place by place.
 fn sweep_row(numbers: &mut [u8], r: usize, a: usize, was: bool) -> bool
@@ -172,7 +173,120 @@ fn sweep_record<'a>(
     }
 }
 
-// Every row once. False where nothing changed.
+// The row of record r of the rule.
+fn sweep_at<'a>(
+    site: &[u8],
+    triples: usize,
+    rule: &[u8],
+    starts: &[usize; RECORDS],
+    up: &'a [u8; RECORDS],
+    role: &'a [u8; RECORDS],
+    first: &'a [u8; RECORDS],
+    goal: Goal,
+    numbers: &mut [u8],
+    r: usize,
+    was: bool,
+) -> bool
+    requires { ⌜ ReadyAt (now site) triples (now rule) (now starts) (now up) (now role) (now first) r × Full (now numbers) ⌝ }
+    ensures { λ changed. ⌜ SweptAt (now (site .entry)) triples (now (rule .entry)) (now (up .entry)) (now (role .entry)) (now (first .entry)) (goalOf goal) r (pairs (now (numbers .entry))) (pairs (now (numbers .exit))) was changed ⌝ }
+{
+    let rec = record_at(rule, starts[r]);
+    let operand = first[r] as usize;
+    sweep_record(site, triples, rec, operand, up, role, goal, numbers, r, was)
+}
+
+// The rows of all that stands under record r: under its second operand, under its first, then its own; a test before its
+// step. A number is taken over from what follows, and what follows a first operand is the second.
+fn sweep_under<'a>(
+    site: &[u8],
+    triples: usize,
+    rule: &[u8],
+    starts: &[usize; RECORDS],
+    up: &'a [u8; RECORDS],
+    role: &'a [u8; RECORDS],
+    first: &'a [u8; RECORDS],
+    goal: Goal,
+    numbers: &mut [u8],
+    r: usize,
+    was: bool,
+) -> bool
+    requires { ⌜ ReadyAt (now site) triples (now rule) (now starts) (now up) (now role) (now first) r × Full (now numbers) ⌝ }
+    ensures { λ changed. ⌜ SweptUnder (now (site .entry)) triples (now (rule .entry)) (now (up .entry)) (now (role .entry)) (now (first .entry)) (goalOf goal) r (pairs (now (numbers .entry))) (pairs (now (numbers .exit))) was changed ⌝ }
+{
+    let taken = operands_of(record_at(rule, starts[r]));
+    if taken == 0 {
+        return sweep_at(
+            site,
+            triples,
+            rule,
+            starts,
+            up,
+            role,
+            first,
+            goal,
+            numbers,
+            r,
+            was,
+        );
+    }
+    let one = sweep_under(
+        site,
+        triples,
+        rule,
+        starts,
+        up,
+        role,
+        first,
+        goal,
+        numbers,
+        r - 1,
+        was,
+    );
+    if taken == 1 {
+        return sweep_at(
+            site,
+            triples,
+            rule,
+            starts,
+            up,
+            role,
+            first,
+            goal,
+            numbers,
+            r,
+            one,
+        );
+    }
+    let operand = first[r] as usize;
+    let both = sweep_under(
+        site,
+        triples,
+        rule,
+        starts,
+        up,
+        role,
+        first,
+        goal,
+        numbers,
+        operand,
+        one,
+    );
+    sweep_at(
+        site,
+        triples,
+        rule,
+        starts,
+        up,
+        role,
+        first,
+        goal,
+        numbers,
+        r,
+        both,
+    )
+}
+
+// Every row once, from the whole rule down. False where nothing changed.
 fn sweep<'a>(
     site: &[u8],
     triples: usize,
@@ -188,26 +302,19 @@ fn sweep<'a>(
     requires { ⌜ Ready (now site) triples (now rule) (now starts) count (now up) (now role) (now first) × Full (now numbers) ⌝ }
     ensures { λ changed. ⌜ SweptOver (now (site .entry)) triples (now (rule .entry)) (now (up .entry)) (now (role .entry)) (now (first .entry)) (goalOf goal) (pairs (now (numbers .entry))) (pairs (now (numbers .exit))) changed ⌝ }
 {
-    let mut changed = false;
-    let mut r = 0;
-    while r < count {
-        let rec = record_at(rule, starts[r]);
-        let operand = first[r] as usize;
-        changed = sweep_record(
-            site,
-            triples,
-            rec,
-            operand,
-            up,
-            role,
-            goal,
-            numbers,
-            r,
-            changed,
-        );
-        r += 1;
-    }
-    changed
+    sweep_under(
+        site,
+        triples,
+        rule,
+        starts,
+        up,
+        role,
+        first,
+        goal,
+        numbers,
+        count - 1,
+        false,
+    )
 }
 
 // Sweeps until one changes nothing.
