@@ -18,7 +18,7 @@ use Rattle.fewest.specs.declared.links.Links.{Links}
 use Rattle.fewest.specs.Frame.{Linked}
 use Rattle.fewest.specs.Work.{Ready}
 use Rattle.fewest.proofs.Readiness.{ready}
-use Rattle.calls.specs.Admission.{Asked-of, starting, ending, Amiss, here, later, Fine, none, also, Refuses, by-query, Admits}
+use Rattle.calls.specs.Admission.{Asked-of, starting, ending, Amiss, here, later, Fine, none, also, Refuses, by-length, by-query, Admits}
 use Rattle.calls.specs.Inner.{Given, TurnedAway, by-start, by-end}
 
 -- 0 is a term
@@ -50,6 +50,17 @@ module _ {F : Type 0} {s r : List ℕ} (fits : F) where
   -- and one that takes neither.
   pub turned-refuses-none : {x : Refusal} → TurnedAway s r 0 0 x → Refuses F s r [] x
   turned-refuses-none = refuses _ (λ h. absurd (zero-fits h)) (λ h k. absurd (zero-fits k))
+
+-- Two calls of whose tables both fit refuse alike,
+pub refuses-as : {F G : Type 0} {s r : List ℕ} {qs : List Asked-of} {x : Refusal} → F → G → Refuses F s r qs x → Refuses G s r qs x
+refuses-as f g (by-length wrong) = absurd (wrong f)
+refuses-as f g (Refuses.by-site h c) = Refuses.by-site g c
+refuses-as f g (Refuses.by-rule h c d) = Refuses.by-rule g c d
+refuses-as f g (by-query h c d amiss) = by-query g c d amiss
+
+-- and answer alike.
+pub admits-as : {F G : Type 0} {s r : List ℕ} {qs : List Asked-of} {n : ℕ} {e : Expr} → G → Admits F s r qs n e → Admits G s r qs n e
+admits-as g a = record { fits = g; count = a .count; site = a .site; rule = a .rule; expression = a .expression; query = a .query }
 
 module _ {s r : List ℕ} {n c : ℕ} {starts : List ℕ} {L : Links} (given : Given s r n c starts L) where
   -- The records of the rule are an expression.

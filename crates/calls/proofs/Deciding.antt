@@ -3,7 +3,7 @@
 use Prim.Native.Nat.{ℕ, _+_, _*_, _-_, _<_}
 use mathlib.Core.Path.{_≡_, refl, subst, subst₂}
 use mathlib.Core.List.{List, [], _∷_, _++_}
-use mathlib.Core.Bool.{Bool, true, false}
+use mathlib.Core.Bool.{true, false}
 use native.Mathlib.Omega.{arith}
 use lib.ListN.{length}
 use Rattle.meaning.specs.Limits.{terms, records, none}
@@ -23,35 +23,21 @@ use Rattle.fewest.specs.Offer.{view}
 use Rattle.fewest.specs.Pairs.{pairs}
 use Rattle.fewest.specs.Sweep.{sum}
 use Rattle.asked.specs.Seek.{Bits}
-use Rattle.path.specs.Tells.{Tells}
-use Rattle.path.proofs.Telling.{told, told-not}
 use Rattle.calls.specs.declared.admit.Query.{Query}
-use Rattle.calls.specs.declared.admit.Verdict.the-variants.{Refused}
-use Rattle.calls.specs.declared.admit.Admission.{Admission}
 use Rattle.calls.specs.declared.Decision.{Decision}
 use Rattle.calls.specs.declared.Decision.the-variants as decision
 use Rattle.calls.specs.Admission.{starting, ending, by-length, Admits}
-use Rattle.calls.specs.Promise.{Form, as-words, as-bytes, lengthIn, Fits, RoomFits, Filled, Decided, refused, no, yes, no-room}
-use Rattle.calls.specs.Inner.{Given, Sound-query, Admitted, Evaluated, Finished}
+use Rattle.calls.specs.Promise.{Form, lengthIn, Fits, RoomFits, Filled, Decided, refused, no, yes, no-room}
+use Rattle.calls.specs.Inner.{Given, TurnedAway, Sound-query, Evaluated, Finished}
 use Rattle.calls.specs.Written.{StepsOf, Walkable, PathWritten}
 use Rattle.calls.proofs.Admits.{turned-refuses, given-expression, given-admits}
-use Rattle.calls.proofs.Evaluation.{evaluated-known, evaluated-steps, evaluated-figure, evaluated-bits, evaluated-filled}
+use Rattle.calls.proofs.Evaluation.{lentAs, filled-as, evaluated-known, evaluated-steps, evaluated-figure, evaluated-bits, evaluated-filled}
 
 -- the fewest steps of a way through the rule to the query's end are the fewest of a conforming path
 fewest-conforms : (s : Site) (e : Expr) (z v : ℕ) {k : ℕ} → Fewest (Way s (end v) (entered e whole z)) k → Fewest (λ q. Conforms s e z q v) k
 fewest-conforms s e z v (attained p w long some least) =
     attained p (way-conforms s e z p v .0 w) long some (λ q h. least q (way-conforms s e z q v .1 h))
 fewest-conforms s e z v (never eq all) = never eq (λ p h. all p (way-conforms s e z p v .1 h))
-
--- a table of byte pairs as it is lent: its numbers, or its bytes
-abbrev pub lentAs : Form → List ℕ → List ℕ
-lentAs as-words b = pairs b
-lentAs as-bytes b = b
-
-filled-as : (f : Form) {s : Site} {e : Expr} {z : ℕ} {g : Goal} {asked numbers : List ℕ} → Filled as-bytes s e z g asked numbers →
-    Filled f s e z g asked (lentAs f numbers)
-filled-as as-words filled = record { questions = filled .questions; long = filled .fewest .long; fewest = filled .fewest }
-filled-as as-bytes filled = filled
 
 -- no table of ends is lent, so there are no ends
 pub no-ends : {s r up role first : List ℕ} {n : ℕ} {g : Goal} {z k : ℕ} {asked numbers : List ℕ} (ends : List ℕ) → length ends ≡ k → k ≡ 0 →
@@ -118,19 +104,18 @@ module _ {s r : List ℕ} {n c : ℕ} {starts : List ℕ} {L : Links} (given : G
           subst (λ (i : ℕ). Decided f s r z v a b room asked (lentAs f numbers) room′ (decision.Answer (record { yes = true; figure = d; steps = i })))
           (path .long) (yes p (filled x) (counted x) shown (path .fits) (path .fills))
 
-module _ {f : Form} {s r : List ℕ} {z v : ℕ} {asked numbers room : List ℕ} where
-  -- Tables or a room of other lengths are refused,
-  pub refused-lengths : {b : Bool} → Tells (Fits f asked numbers × RoomFits f room) b → b ≡ false →
+module _ (f : Form) {s r : List ℕ} {z v : ℕ} {asked numbers room : List ℕ} where
+  -- A length that is wrong is refused;
+  pub decided-short : (Fits f asked numbers × RoomFits f room → ⊥) →
       Decided f s r z v asked numbers room asked numbers room (decision.Refused (refusal TableLength 0))
-  refused-lengths tells e = refused (by-length (told-not tells e)) refl refl refl
+  decided-short wrong = refused (by-length wrong) refl refl refl
 
-  -- and what is turned away is refused, with everything kept.
-  pub refused-turned : {b : Bool} {a : Admission} {x y : Refusal} → Tells (Fits f asked numbers × RoomFits f room) b → b ≡ true →
-      Admitted s r z v a → a .verdict ≡ Refused y → x ≡ y → Decided f s r z v asked numbers room asked numbers room (decision.Refused x)
-  refused-turned {x = x} {y = y} tells e admitted out same =
-      refused {x = x} (turned-refuses (told tells e) (rw same (admitted .refused y out))) refl refl refl
+  -- what is turned away is refused;
+  pub decided-turned : {x : Refusal} → Fits f asked numbers × RoomFits f room → TurnedAway s r z v x →
+      Decided f s r z v asked numbers room asked numbers room (decision.Refused x)
+  decided-turned fits away = refused (turned-refuses fits away) refl refl refl
 
-  -- The pair that was admitted is the pair asked for.
+  -- and the pair that was admitted is the pair asked for.
   pub decided-query : {asked′ numbers′ room′ : List ℕ} {d : Decision} (q : Query) → Sound-query z v q →
       Decided f s r (q .start) (q .end) asked numbers room asked′ numbers′ room′ d → Decided f s r z v asked numbers room asked′ numbers′ room′ d
   decided-query {asked′ = asked′} {numbers′ = numbers′} {room′ = room′} {d = d} q sound =

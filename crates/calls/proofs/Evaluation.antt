@@ -6,7 +6,7 @@ use mathlib.Core.List.{List}
 use native.Mathlib.Omega.{arith}
 use lib.ListN.{length}
 use Rattle.meaning.specs.Limits.{terms, records, none}
-use Rattle.meaning.specs.Site.{Within}
+use Rattle.meaning.specs.Site.{Site, Within}
 use Rattle.meaning.specs.Expression.{Expr, last, Expression, whole}
 use Rattle.meaning.specs.Relation.{Rel}
 use Rattle.meaning.specs.Fewest.{Goal, entered, Way, Fewest, Numbers}
@@ -25,9 +25,20 @@ use Rattle.asked.proofs.Fair.{Fair, begun-fair, marks-on-fair}
 use Rattle.path.specs.Walking.{Known}
 use Rattle.calls.specs.Inner.{Given, Evaluated}
 use Rattle.calls.specs.Tables.{TermTable}
-use Rattle.calls.specs.Promise.{as-bytes, Filled}
+use Rattle.calls.specs.Promise.{Form, as-words, as-bytes, Filled}
 use Rattle.calls.proofs.Fronts.{numbers-long}
 use Rattle.calls.proofs.Admits.{given-ready, given-linked, given-size, given-last, given-counted}
+
+-- a table of byte pairs as it is lent: its numbers, or its bytes
+abbrev pub lentAs : Form → List ℕ → List ℕ
+lentAs as-words b = pairs b
+lentAs as-bytes b = b
+
+-- Tables filled in byte pairs are filled in either form.
+pub filled-as : (f : Form) {s : Site} {e : Expr} {z : ℕ} {g : Goal} {asked numbers : List ℕ} → Filled as-bytes s e z g asked numbers →
+    Filled f s e z g asked (lentAs f numbers)
+filled-as as-words filled = record { questions = filled .questions; long = filled .fewest .long; fewest = filled .fewest }
+filled-as as-bytes filled = filled
 
 module _ {s r : List ℕ} {n c : ℕ} {starts : List ℕ} {L : Links} (given : Given s r n c starts L) {e : Expr} (x : Expression (recordsOf r) e) where
   -- the site's terms are terms,

@@ -1,17 +1,11 @@
 -- How a list of ends comes to its promise: by the lengths, by the admission, or by the tables that were filled.
--- One law each serves both forms of the call.
+-- The call over numbers comes to it by what the call over bytes says of a local table.
 use Prim.Native.Nat.{ℕ, _+_, _*_, _<_}
 use mathlib.Core.Path.{_≡_, refl}
-use mathlib.Core.Bool.{Bool}
 use mathlib.Core.List.{List}
 use native.Mathlib.Omega.{arith}
-use native.Mathlib.Decide.{ℕ-discrete}
 use lib.ListN.{length}
-use lib.Dec.{eqb}
-use borrow.Author.Tests.{eq-eqb, ne-eqb}
 use Rattle.meaning.specs.Limits.{terms, records}
-use Rattle.meaning.specs.Site.{Site}
-use Rattle.meaning.specs.Expression.{Expr}
 use Rattle.meaning.specs.Fewest.{Goal}
 use Rattle.records.specs.declared.Refusal.{Refusal}
 use Rattle.records.specs.declared.Reason.the-variants.{TableLength}
@@ -21,20 +15,15 @@ use Rattle.fewest.specs.Frame.{links}
 use Rattle.fewest.specs.Pairs.{pairs}
 use Rattle.fewest.specs.Table.{Full}
 use Rattle.asked.specs.Seek.{Bits, Whole}
-use Rattle.path.specs.Tells.{Tells, holds, fails}
 use Rattle.calls.specs.declared.Found.{Found}
+use Rattle.calls.specs.declared.EndList.{EndList}
 use Rattle.calls.specs.declared.EndList.the-variants as ends
 use Rattle.calls.specs.declared.admit.Query.{Query}
 use Rattle.calls.specs.Admission.{by-length}
 use Rattle.calls.specs.Inner.{Given, TurnedAway, Sound-query, Evaluated, EndsListed}
-use Rattle.calls.specs.Promise.{Form, as-bytes, numbersOf, lengthIn, Fits, Filled, Ended, refused, found}
-use Rattle.calls.proofs.Admits.{turned-refuses-start, given-expression, given-admits-start}
-use Rattle.calls.proofs.Evaluation.{evaluated-filled, evaluated-figure, evaluated-bits, evaluated-ends, evaluated-ends-count}
-
--- Tables filled in byte pairs are filled in any form that holds the same numbers.
-pub filled-in : (f : Form) {s : Site} {e : Expr} {z : ℕ} {g : Goal} {asked bytes numbers : List ℕ} → Filled as-bytes s e z g asked bytes →
-    length numbers ≡ lengthIn f (records * terms) → numbersOf f numbers ≡ pairs bytes → Filled f s e z g asked numbers
-filled-in f filled long same = record { questions = filled .questions; long = long; fewest = rw same (filled .fewest) }
+use Rattle.calls.specs.Promise.{Form, as-words, as-bytes, Fits, Ended, refused, found}
+use Rattle.calls.proofs.Admits.{turned-refuses-start, refuses-as, admits-as, given-expression, given-admits-start}
+use Rattle.calls.proofs.Evaluation.{filled-as, evaluated-filled, evaluated-figure, evaluated-bits, evaluated-ends, evaluated-ends-count}
 
 -- After an evaluation the byte table and the ends can be counted.
 pub listed-bits : {s r : List ℕ} {n c : ℕ} {starts : List ℕ} {L : Links} {g : Goal} {z k : ℕ} {asked numbers third : List ℕ} → Given s r n c starts L →
@@ -48,43 +37,49 @@ pub may-list : {s r starts : List ℕ} {z : ℕ} {q : Query} {L : Links} (asked 
 unfolding Full Whole
 may-list asked bytes whole full (given, sound) = (given, full, whole, omega (arith, sound .from, sound .start-fits))
 
--- the lengths that the code compares are the tables'
-pub fitting : (f : Form) (asked numbers third : List ℕ) {b : Bool} →
-    Tells ((length asked ≡ records * terms) × (length numbers ≡ lengthIn f (records * terms)) × (length third ≡ terms)) b →
-    Tells (Fits f asked numbers × (length third ≡ terms)) b
-fitting f asked numbers third (holds h) = holds (record { asked-fits = h .0; numbers-fit = h .1 }, h .2)
-fitting f asked numbers third (fails n) = fails (λ h. n (h .0 .asked-fits, h .0 .numbers-fit, h .1))
+-- A length that is wrong is refused, in either form;
+pub ends-short : (f : Form) {s r : List ℕ} {z : ℕ} {asked numbers third : List ℕ} → (Fits f asked numbers × (length third ≡ terms) → ⊥) →
+    Ended f s r z asked numbers third asked numbers third (ends.Refused (refusal TableLength 0))
+ends-short f wrong = refused (by-length wrong) refl refl refl
 
--- Where the first two lengths are right, the third one tells.
-pub third-tells : {A B : Type 0} → A → B → (t : ℕ) → Tells (A × B × (t ≡ terms)) (eqb t terms)
-third-tells a b t = elim (ℕ-discrete t terms) [
-  | yes h ↦ rw (eq-eqb _ _ h) (holds (a, b, h))
-  | no h ↦ rw (ne-eqb _ _ h) (fails (λ x. h (x .2)))
-]
-
-module _ (f : Form) {s r : List ℕ} {z : ℕ} {asked numbers third : List ℕ} where
-  -- A length that is wrong is refused;
-  pub ends-short : (Fits f asked numbers × (length third ≡ terms) → ⊥) → Ended f s r z asked numbers third asked numbers third (ends.Refused (refusal TableLength 0))
-  ends-short wrong = refused (by-length wrong) refl refl refl
-
+module _ {s r : List ℕ} {z : ℕ} {asked numbers third : List ℕ} (fits : Fits as-bytes asked numbers × (length third ≡ terms)) where
   -- what is turned away is refused;
-  pub ends-turned : {x : Refusal} → Fits f asked numbers × (length third ≡ terms) → TurnedAway s r z 0 x → Ended f s r z asked numbers third asked numbers third (ends.Refused x)
-  ends-turned fits away = refused (turned-refuses-start fits away) refl refl refl
+  pub ends-turned : {x : Refusal} → TurnedAway s r z 0 x → Ended as-bytes s r z asked numbers third asked numbers third (ends.Refused x)
+  ends-turned away = refused (turned-refuses-start fits away) refl refl refl
 
   -- and what was listed is found.
-  pub ends-listed : {q : Query} {starts : List ℕ} {L : Links} {k : ℕ} {asked′ bytes numbers′ third′ : List ℕ} {x : Found} → Fits f asked numbers × (length third ≡ terms) →
+  pub ends-listed : {q : Query} {starts : List ℕ} {L : Links} {k : ℕ} {asked′ numbers′ third′ : List ℕ} {x : Found} →
       Given s r (q .triples) (q .count) starts L × Sound-query z 0 q →
-      EndsListed s (q .triples) r (links (L .up) (L .role) (L .first)) (q .start) k asked′ bytes third′ x →
-      length bytes ≡ records * terms + records * terms → length third′ ≡ terms →
-      length numbers′ ≡ lengthIn f (records * terms) → numbersOf f numbers′ ≡ pairs bytes →
-      Ended f s r z asked numbers third asked′ numbers′ third′ (ends.Found x)
-  ends-listed {x = x} fits (given, sound) listed full long fit same =
+      EndsListed s (q .triples) r (links (L .up) (L .role) (L .first)) (q .start) k asked′ numbers′ third′ x →
+      length numbers′ ≡ records * terms + records * terms → length third′ ≡ terms →
+      Ended as-bytes s r z asked numbers third asked′ numbers′ third′ (ends.Found x)
+  ends-listed {x = x} (given, sound) listed full long =
       let (e, admitted) = given-admits-start fits given (sound .start-fits) in
       let E = rw (sound .from) at (listed .evaluated) in
       let y = admitted .expression in
       let start = sound .start-fits in
       found {c = x .figure} {k = x .ends} admitted
-      (filled-in f (evaluated-filled given y E start full) fit same)
+      (evaluated-filled given y E start full)
       (evaluated-ends given y E start long)
       (rw (listed .ends) (evaluated-ends-count given y E start long))
       (rw (listed .figure) (evaluated-figure given y E start))
+
+-- What the call over bytes leaves in a local table is what the call over numbers leaves:
+module _ {s r : List ℕ} {z : ℕ} {asked numbers bytes third asked′ bytes′ third′ : List ℕ} (lent : Fits as-words asked numbers × (length third ≡ terms))
+    (full : length bytes ≡ records * terms + records * terms) where
+  -- where there is an answer, the numbers that were copied out of it,
+  pub ends-copied : {list : EndList} {x : Found} {numbers′ : List ℕ} → Ended as-bytes s r z asked bytes third asked′ bytes′ third′ list → list ≡ ends.Found x → numbers′ ≡ pairs bytes′ →
+      Ended as-words s r z asked numbers third asked′ numbers′ third′ (ends.Found x)
+  ends-copied (refused p a n t) e same = let z : _≡_ {A = ℕ} 0 1 = cc in absurd (omega arith)
+  ends-copied {x = x} (found {c = c} {k = k} p filled told count figure) e same =
+      let these : x ≡ record { ends = k; figure = c } = cc in
+      rw these (found (admits-as lent p) (rw same (filled-as as-words filled)) told count figure)
+
+  -- and where there is none, the numbers that were lent.
+  pub ends-kept : {list : EndList} {x : Refusal} → Ended as-bytes s r z asked bytes third asked′ bytes′ third′ list → list ≡ ends.Refused x →
+      Ended as-words s r z asked numbers third asked′ numbers third′ (ends.Refused x)
+  ends-kept {x = x} (refused {x = y} p a n t) e =
+      let why : x ≡ y = cc in
+      let both : Fits as-bytes asked bytes × (length third ≡ terms) = (record { asked-fits = lent .0 .asked-fits; numbers-fit = full }, lent .1) in
+      refused {x = x} (refuses-as both lent (rw why p)) a refl t
+  ends-kept (found p filled told count figure) e = let z : _≡_ {A = ℕ} 0 1 = cc in absurd (omega arith)

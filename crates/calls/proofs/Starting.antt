@@ -1,11 +1,11 @@
 -- What listing the starts leaves is what it promises: the bits of the whole rule's row, which is the last record's, are the
--- starts, and their sum is the number of starts.
-use Prim.Native.Nat.{ℕ, _-_, _<_}
-use mathlib.Core.Path.{_≡_, refl, _∙_}
+-- starts, and their sum is the number of starts. The call over numbers leaves what the call over bytes leaves in a local table.
+use Prim.Native.Nat.{ℕ, _+_, _*_, _-_, _<_}
+use mathlib.Core.Path.{_≡_, refl}
 use mathlib.Core.List.{List}
 use native.Mathlib.Omega.{arith}
 use lib.ListN.{length}
-use Rattle.meaning.specs.Limits.{terms, none}
+use Rattle.meaning.specs.Limits.{terms, records, none}
 use Rattle.meaning.specs.Expression.{Expr, last, Expression}
 use Rattle.meaning.specs.Relation.{Rel}
 use Rattle.meaning.specs.Fewest.{end}
@@ -15,18 +15,20 @@ use Rattle.records.specs.declared.Reason.the-variants.{TableLength}
 use Rattle.records.specs.Sites.{siteOf}
 use Rattle.records.specs.Rules.{recordsOf, refusal}
 use Rattle.fewest.specs.declared.links.Links.{Links}
+use Rattle.fewest.specs.Pairs.{pairs}
 use Rattle.fewest.specs.Table.{Full}
 use Rattle.fewest.specs.Told.{bitOf, Told}
 use Rattle.fewest.specs.Offer.{view}
-use Rattle.fewest.specs.Sweep.{sum}
 use Rattle.fewest.proofs.Telling.{bit-some}
 use Rattle.asked.proofs.Bridge.{starts-numbered}
+use Rattle.calls.specs.declared.StartList.{StartList}
 use Rattle.calls.specs.declared.StartList.the-variants.{Found, Refused}
+use Rattle.calls.specs.declared.admit.Query.{Query}
 use Rattle.calls.specs.Admission.{by-length}
 use Rattle.calls.specs.Tables.{NumberTable, TermTable}
-use Rattle.calls.specs.Inner.{Given, TurnedAway, Listed}
-use Rattle.calls.specs.Promise.{as-bytes, Fits, Started, refused, found}
-use Rattle.calls.proofs.Admits.{turned-refuses-end, given-last, given-admits-end}
+use Rattle.calls.specs.Inner.{Given, TurnedAway, Sound-query, Listed}
+use Rattle.calls.specs.Promise.{Form, as-words, as-bytes, Fits, Started, refused, found}
+use Rattle.calls.proofs.Admits.{turned-refuses-end, refuses-as, admits-as, given-last, given-admits-end}
 use Rattle.calls.proofs.NumbersLeft.{settled-table}
 use Rattle.calls.proofs.TermTables.{table-same, table-count}
 
@@ -45,27 +47,46 @@ module _ {s r : List ℕ} {n c : ℕ} {starts : List ℕ} {L : Links} (given : G
       let row : c - 1 ≡ last e = omega (arith, given-last given x) in
       table-same (λ t h. rw row (starts-numbered (siteOf s n) e v T (table .numbers) t h)) (told-table told)
 
-  -- Where the tables have their lengths and the end is a term, the starts are found.
-  pub starts-found : (asked numbers third : List ℕ) → Fits as-bytes asked numbers × (length third ≡ terms) → v < terms →
-      {u : ℕ} {asked′ third′ : List ℕ} (numbers′ : List ℕ) → length numbers′ ≡ length numbers → u ≡ v →
-      Listed s n r c (L .up) (L .role) (L .first) u asked′ numbers′ third′ →
-      Started as-bytes s r v asked numbers third asked′ numbers′ third′ (Found (sum third′))
+-- A length that is wrong is refused, in either form;
+pub starts-short : (f : Form) {s r : List ℕ} {v : ℕ} {asked numbers third : List ℕ} → (Fits f asked numbers × (length third ≡ terms) → ⊥) →
+    Started f s r v asked numbers third asked numbers third (Refused (refusal TableLength 0))
+starts-short f wrong = refused (by-length wrong) refl refl refl
+
+module _ {s r : List ℕ} {v : ℕ} {asked numbers third : List ℕ} (fits : Fits as-bytes asked numbers × (length third ≡ terms)) where
+  -- what is turned away is refused;
+  pub starts-turned : {x : Refusal} → TurnedAway s r 0 v x → Started as-bytes s r v asked numbers third asked numbers third (Refused x)
+  starts-turned away = refused (turned-refuses-end fits away) refl refl refl
+
+  -- and what was listed is found.
+  pub starts-listed : {q : Query} {starts : List ℕ} {L : Links} {asked′ numbers′ third′ : List ℕ} {k : ℕ} →
+      Given s r (q .triples) (q .count) starts L × Sound-query 0 v q →
+      Listed s (q .triples) r (q .count) (L .up) (L .role) (L .first) (q .end) asked′ numbers′ third′ k →
+      length numbers′ ≡ records * terms + records * terms → Started as-bytes s r v asked numbers third asked′ numbers′ third′ (Found k)
   unfolding Full
-  starts-found asked numbers third fits fine numbers′ kept same left =
-      let (e, admits) = given-admits-end fits given fine in
-      let listed = rw same at left in
-      let full = kept ∙ fits .0 .numbers-fit in
-      let table = settled-table given (admits .expression) numbers′ full (listed .settled) in
-      let starts = told-starts (admits .expression) table (listed .told) in
-      found admits (listed .clear) full table starts (table-count starts)
+  starts-listed {numbers′ = numbers′} {k = k} (given, sound) left full =
+      let (e, admitted) = given-admits-end fits given (sound .end-fits) in
+      let listed = rw (sound .to) at left in
+      let x = admitted .expression in
+      let table = settled-table given x numbers′ full (listed .settled) in
+      let starts = told-starts given x table (listed .told) in
+      found {k = k} admitted (listed .clear) full table starts (rw (listed .count) (table-count starts))
 
-module _ {s r : List ℕ} {v : ℕ} (asked numbers third : List ℕ) where
-  -- Where a table has another length, that is refused,
-  pub starts-unfit : (Fits as-bytes asked numbers × (length third ≡ terms) → ⊥) →
-      Started as-bytes s r v asked numbers third asked numbers third (Refused (refusal TableLength 0))
-  starts-unfit unfit = refused (by-length unfit) refl refl refl
+-- What the call over bytes leaves in a local table is what the call over numbers leaves:
+module _ {s r : List ℕ} {v : ℕ} {asked numbers bytes third asked′ bytes′ third′ : List ℕ} (lent : Fits as-words asked numbers × (length third ≡ terms))
+    (full : length bytes ≡ records * terms + records * terms) where
+  -- where there is an answer, the numbers that were copied out of it,
+  pub starts-copied : {list : StartList} {k : ℕ} {numbers′ : List ℕ} → Started as-bytes s r v asked bytes third asked′ bytes′ third′ list → list ≡ Found k → numbers′ ≡ pairs bytes′ →
+      Started as-words s r v asked numbers third asked′ numbers′ third′ (Found k)
+  starts-copied (refused p a n t) e same = let z : _≡_ {A = ℕ} 0 1 = cc in absurd (omega arith)
+  starts-copied {k = k} (found {k = i} p clear long table told count) e same =
+      let many : k ≡ i = cc in
+      found {k = k} (admits-as lent p) clear (rw same (table .long)) (rw same table) told (rw many count)
 
-  -- and what was turned away is refused so.
-  pub starts-refused : {x : Refusal} → Fits as-bytes asked numbers × (length third ≡ terms) → TurnedAway s r 0 v x →
-      Started as-bytes s r v asked numbers third asked numbers third (Refused x)
-  starts-refused fits away = refused (turned-refuses-end fits away) refl refl refl
+  -- and where there is none, the numbers that were lent.
+  pub starts-kept : {list : StartList} {x : Refusal} → Started as-bytes s r v asked bytes third asked′ bytes′ third′ list → list ≡ Refused x →
+      Started as-words s r v asked numbers third asked′ numbers third′ (Refused x)
+  starts-kept {x = x} (refused {x = y} p a n t) e =
+      let why : x ≡ y = cc in
+      let both : Fits as-bytes asked bytes × (length third ≡ terms) = (record { asked-fits = lent .0 .asked-fits; numbers-fit = full }, lent .1) in
+      refused {x = x} (refuses-as both lent (rw why p)) a refl t
+  starts-kept (found p clear long table told count) e = let z : _≡_ {A = ℕ} 0 1 = cc in absurd (omega arith)

@@ -69,11 +69,12 @@ pub record EndsListed (s : List ℕ) (n : ℕ) (r : List ℕ) (L : Links) (z k :
   pub ends : x .ends ≡ sum third
   pub figure : x .figure ≡ sum asked
 
--- what listing the starts of v leaves: the numbers to v settled from none, the bits of the whole rule's row, and a byte table
--- of 0
-pub record Listed (s : List ℕ) (n : ℕ) (r : List ℕ) (c : ℕ) (up role first : List ℕ) (v : ℕ) (asked numbers third : List ℕ) : Type 0 where
+-- what listing the starts of v leaves: the numbers to v settled from none, the bits of the whole rule's row, which are counted,
+-- and a byte table of 0
+pub record Listed (s : List ℕ) (n : ℕ) (r : List ℕ) (c : ℕ) (up role first : List ℕ) (v : ℕ) (asked numbers third : List ℕ) (k : ℕ) : Type 0 where
   pub settled : SettledOver s n r up role first (end v) (replicate (records * terms) none) (pairs numbers)
   pub told : Told (pairs numbers) (c - 1) terms third
+  pub count : k ≡ sum third
   pub clear : asked ≡ replicate (records * terms) 0
 
 -- what is left of a decision once the tables are filled: it is decided so, whatever the tables held before

@@ -4,6 +4,8 @@ use crate::Decision;
 use crate::admit::Verdict;
 use crate::admit::admit;
 use crate::evaluate::evaluate;
+use crate::lengths::BYTES;
+use crate::lengths::fit;
 use crate::write::write_bytes;
 use asked::count;
 use fewest::Goal;
@@ -12,48 +14,18 @@ use records::NONE;
 use records::RECORDS;
 use records::Reason;
 use records::Refusal;
-use records::TERMS;
 ghost use Prim.Native.Nat.{_<_};
-ghost use mathlib.Core.Path.{_≡_};
 ghost use mathlib.Core.List.{[]};
 ghost use Rattle.meaning.specs.Limits.{terms};
 ghost use Rattle.fewest.specs.Frame.{links};
 ghost use Rattle.fewest.specs.Work.{goalOf};
-ghost use Rattle.path.specs.Tells.{Tells};
 ghost use Rattle.calls.specs.Promise.{as-bytes, Fits, RoomFits, Decided};
 ghost use Rattle.calls.specs.Inner.{Given, Evaluated, Finished};
 
-// A room of bytes is one of so many steps.
+// A room of bytes is one of so many steps, of six bytes each.
 pub const ROOM_STEPS: usize = 1024;
 
-// Whether both tables and the room have their lengths.
-fn fit(asked: &[u8], numbers: &[u8], room: &[u8]) -> bool
-    ensures { λ r. ⌜ Tells (Fits as-bytes (now (asked .entry)) (now (numbers .entry)) × RoomFits as-bytes (now (room .entry))) r ⌝ }
-{
-    if asked.len() != RECORDS * TERMS {
-        return false;
-    }
-    if numbers.len() != 2 * RECORDS * TERMS {
-        return false;
-    }
-    if room.len() != 6 * ROOM_STEPS {
-        return false;
-    }
-    true
-}
-
-// The refusal of a verdict that is one; of another nobody asks.
-pub fn refusal_of(verdict: Verdict) -> Refusal
-    ensures { λ r. ⌜ ((x : Refusal) → verdict ≡ Verdict.Refused x → r ≡ x) ⌝ }
-{
-    match verdict {
-        Verdict::Refused(refusal) => refusal,
-        Verdict::Ready(_) => Refusal {
-            reason: Reason::Input,
-            place: 0,
-        },
-    }
-}
+const ROOM_BYTES: usize = 6 * ROOM_STEPS;
 
 // The answer that the filled tables tell, and the path into the room.
 fn finish<'a>(
@@ -175,35 +147,32 @@ pub fn decide_bytes(
 ) -> Decision
     ensures { λ d. ⌜ Decided as-bytes (now (site .entry)) (now (rule .entry)) start end (now (asked .entry)) (now (numbers .entry)) (now (room .entry)) (now (asked .exit)) (now (numbers .exit)) (now (room .exit)) d ⌝ }
 {
-    if !fit(asked, numbers, room) {
+    if !fit(asked.len(), numbers.len(), room.len(), BYTES, ROOM_BYTES) {
         return Decision::Refused(Refusal {
             reason: Reason::TableLength,
             place: 0,
         });
     }
     let admission = admit(site, rule, start, end);
-    let verdict = admission.verdict;
-    let Verdict::Ready(query) = verdict else {
-        return Decision::Refused(refusal_of(verdict));
-    };
     let starts = admission.starts;
     let links = admission.links;
-    let up = links.up;
-    let role = links.role;
-    let first = links.first;
-    answer(
-        site,
-        query.triples,
-        rule,
-        &starts,
-        query.count,
-        &up,
-        &role,
-        &first,
-        query.start,
-        query.end,
-        asked,
-        numbers,
-        room,
-    )
+    let verdict = admission.verdict;
+    match verdict {
+        Verdict::Ready(query) => answer(
+            site,
+            query.triples,
+            rule,
+            &starts,
+            query.count,
+            &links.up,
+            &links.role,
+            &links.first,
+            query.start,
+            query.end,
+            asked,
+            numbers,
+            room,
+        ),
+        Verdict::Refused(refusal) => Decision::Refused(refusal),
+    }
 }

@@ -3,8 +3,10 @@ use crate::Answer;
 use crate::Decision;
 use crate::admit::Verdict;
 use crate::admit::admit;
-use crate::decide::refusal_of;
 use crate::evaluate::evaluate;
+use crate::lengths::BYTES;
+use crate::lengths::ENTRIES;
+use crate::lengths::fit;
 use crate::write::copy_back;
 use crate::write::write_words;
 use asked::count;
@@ -14,7 +16,6 @@ use records::NONE;
 use records::RECORDS;
 use records::Reason;
 use records::Refusal;
-use records::TERMS;
 ghost use Prim.Native.Nat.{_<_};
 ghost use mathlib.Core.Path.{_≡_};
 ghost use mathlib.Core.List.{[]};
@@ -24,22 +25,8 @@ ghost use Rattle.fewest.specs.Pairs.{pairs};
 ghost use Rattle.fewest.specs.Frame.{links};
 ghost use Rattle.fewest.specs.Table.{Full};
 ghost use Rattle.fewest.specs.Work.{goalOf};
-ghost use Rattle.path.specs.Tells.{Tells};
 ghost use Rattle.calls.specs.Promise.{as-words, Fits, Decided};
 ghost use Rattle.calls.specs.Inner.{Given, Evaluated, Finished};
-
-// Whether both tables have their lengths; a room of numbers has any.
-fn fit_words(asked: &[u8], numbers: &[u16]) -> bool
-    ensures { λ r. ⌜ Tells (Fits as-words (now (asked .entry)) (now (numbers .entry)) × Unit) r ⌝ }
-{
-    if asked.len() != RECORDS * TERMS {
-        return false;
-    }
-    if numbers.len() != RECORDS * TERMS {
-        return false;
-    }
-    true
-}
 
 // The answer that the filled tables tell, and the path into a room of numbers, of any length.
 fn finish_words<'a>(
@@ -152,7 +139,7 @@ fn answer_words<'a>(
     )
 }
 
-// Whether the rule relates start to end, with the figure, both tables filled and the path shown in the room.
+// Whether the rule relates start to end, with the figure, both tables filled and the path shown in the room, of any length.
 pub fn decide(
     site: &[u8],
     rule: &[u8],
@@ -164,39 +151,38 @@ pub fn decide(
 ) -> Decision
     ensures { λ d. ⌜ Decided as-words (now (site .entry)) (now (rule .entry)) start end (now (asked .entry)) (now (numbers .entry)) (now (room .entry)) (now (asked .exit)) (now (numbers .exit)) (now (room .exit)) d ⌝ }
 {
-    if !fit_words(asked, numbers) {
+    if !fit(asked.len(), numbers.len(), room.len(), ENTRIES, room.len()) {
         return Decision::Refused(Refusal {
             reason: Reason::TableLength,
             place: 0,
         });
     }
     let admission = admit(site, rule, start, end);
-    let verdict = admission.verdict;
-    let Verdict::Ready(query) = verdict else {
-        return Decision::Refused(refusal_of(verdict));
-    };
     let starts = admission.starts;
     let links = admission.links;
-    let up = links.up;
-    let role = links.role;
-    let first = links.first;
-    let mut bytes = [0u8; 2 * RECORDS * TERMS];
-    let mut ends = [0u8; 0];
-    answer_words(
-        site,
-        query.triples,
-        rule,
-        &starts,
-        query.count,
-        &up,
-        &role,
-        &first,
-        query.start,
-        query.end,
-        asked,
-        &mut bytes,
-        &mut ends,
-        numbers,
-        room,
-    )
+    let verdict = admission.verdict;
+    match verdict {
+        Verdict::Ready(query) => {
+            let mut bytes = [0u8; BYTES];
+            let mut ends = [0u8; 0];
+            answer_words(
+                site,
+                query.triples,
+                rule,
+                &starts,
+                query.count,
+                &links.up,
+                &links.role,
+                &links.first,
+                query.start,
+                query.end,
+                asked,
+                &mut bytes,
+                &mut ends,
+                numbers,
+                room,
+            )
+        }
+        Verdict::Refused(refusal) => Decision::Refused(refusal),
+    }
 }

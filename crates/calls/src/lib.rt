@@ -2,6 +2,7 @@
 use records::Refusal;
 
 pub mod admit; // admit.rt: what is refused before any table is touched
+pub mod lengths; // lengths.rt: the lengths of what is lent
 pub mod evaluate; // evaluate.rt: both tables
 pub mod write; // write.rt: the path into a room, the numbers out of their bytes
 pub mod decide; // decide.rt: one pair decided, with numbers and room lent as bytes

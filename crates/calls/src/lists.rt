@@ -4,6 +4,9 @@ use crate::Found;
 use crate::admit::Verdict;
 use crate::admit::admit;
 use crate::evaluate::evaluate;
+use crate::lengths::BYTES;
+use crate::lengths::ENTRIES;
+use crate::lengths::fit;
 use crate::write::copy_back;
 use asked::count::count;
 use fewest::Goal;
@@ -11,34 +14,14 @@ use records::RECORDS;
 use records::Reason;
 use records::Refusal;
 use records::TERMS;
-ghost use Prim.Native.Nat.{_*_, _<_};
-ghost use mathlib.Core.Path.{_≡_};
+ghost use Prim.Native.Nat.{_<_};
 ghost use lib.ListN.{length};
-ghost use Rattle.meaning.specs.Limits.{terms, records};
+ghost use Rattle.meaning.specs.Limits.{terms};
 ghost use Rattle.fewest.specs.Frame.{links};
 ghost use Rattle.fewest.specs.Table.{Full};
 ghost use Rattle.asked.specs.Seek.{Whole};
-ghost use Rattle.path.specs.Tells.{Tells};
 ghost use Rattle.calls.specs.Inner.{Given, EndsListed};
 ghost use Rattle.calls.specs.Promise.{as-words, as-bytes, Ended};
-
-// The entries of a table by record and term, and its bytes where each takes two.
-const ENTRIES: usize = RECORDS * TERMS;
-
-const BYTES: usize = ENTRIES + ENTRIES;
-
-// Whether the lent tables have their lengths, where that of the numbers is given.
-fn fit(asked: usize, numbers: usize, third: usize, long: usize) -> bool
-    ensures { λ r. ⌜ Tells ((asked ≡ records * terms) × (numbers ≡ long) × (third ≡ terms)) r ⌝ }
-{
-    if asked != ENTRIES {
-        return false;
-    }
-    if numbers != long {
-        return false;
-    }
-    third == TERMS
-}
 
 // The ends for a site and a rule that were read.
 fn list<'a>(
@@ -90,7 +73,7 @@ pub fn ends_bytes(
 ) -> EndList
     ensures { λ r. ⌜ Ended as-bytes (now (site .entry)) (now (rule .entry)) start (now (asked .entry)) (now (numbers .entry)) (now (third .entry)) (now (asked .exit)) (now (numbers .exit)) (now (third .exit)) r ⌝ }
 {
-    if !fit(asked.len(), numbers.len(), third.len(), BYTES) {
+    if !fit(asked.len(), numbers.len(), third.len(), BYTES, TERMS) {
         return EndList::Refused(Refusal {
             reason: Reason::TableLength,
             place: 0,
@@ -119,7 +102,8 @@ pub fn ends_bytes(
     }
 }
 
-// The ends of a start, with the figure and both tables, on tables of numbers.
+// The ends of a start, with the figure and both tables, on tables of numbers: the same on a local table of bytes, copied out
+// where there is an answer.
 pub fn ends(
     site: &[u8],
     rule: &[u8],
@@ -130,36 +114,19 @@ pub fn ends(
 ) -> EndList
     ensures { λ r. ⌜ Ended as-words (now (site .entry)) (now (rule .entry)) start (now (asked .entry)) (now (numbers .entry)) (now (third .entry)) (now (asked .exit)) (now (numbers .exit)) (now (third .exit)) r ⌝ }
 {
-    if !fit(asked.len(), numbers.len(), third.len(), ENTRIES) {
+    if !fit(asked.len(), numbers.len(), third.len(), ENTRIES, TERMS) {
         return EndList::Refused(Refusal {
             reason: Reason::TableLength,
             place: 0,
         });
     }
-    let admission = admit(site, rule, start, 0);
-    let starts = admission.starts;
-    let links = admission.links;
-    let verdict = admission.verdict;
-    match verdict {
-        Verdict::Ready(query) => {
-            let mut bytes = [0u8; BYTES];
-            let found = list(
-                site,
-                query.triples,
-                rule,
-                &starts,
-                query.count,
-                &links.up,
-                &links.role,
-                &links.first,
-                query.start,
-                asked,
-                &mut bytes,
-                third,
-            );
+    let mut bytes = [0u8; BYTES];
+    let list = ends_bytes(site, rule, start, asked, &mut bytes, third);
+    match list {
+        EndList::Found(found) => {
             copy_back(&bytes, numbers);
             EndList::Found(found)
         }
-        Verdict::Refused(refusal) => EndList::Refused(refusal),
+        EndList::Refused(refusal) => EndList::Refused(refusal),
     }
 }

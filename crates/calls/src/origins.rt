@@ -2,6 +2,10 @@
 use crate::StartList;
 use crate::admit::Verdict;
 use crate::admit::admit;
+use crate::lengths::BYTES;
+use crate::lengths::ENTRIES;
+use crate::lengths::fit;
+use crate::write::copy_back;
 use asked::count::count;
 use asked::spread::clear;
 use fewest::Goal;
@@ -12,35 +16,21 @@ use records::Reason;
 use records::Refusal;
 use records::TERMS;
 ghost use mathlib.Core.Path.{_≡_};
-ghost use Prim.Native.Nat.{_<_};
 ghost use lib.ListN.{length};
 ghost use Rattle.meaning.specs.Limits.{terms};
-ghost use Rattle.records.specs.declared.Reason.the-variants.{TableLength};
-ghost use Rattle.records.specs.Rules.{refusal};
+ghost use Rattle.fewest.specs.Frame.{links};
 ghost use Rattle.fewest.specs.Table.{Full};
-ghost use Rattle.fewest.specs.Work.{Ready};
 ghost use Rattle.asked.specs.Seek.{Whole};
-ghost use Rattle.calls.specs.declared.StartList.the-variants as starts;
-ghost use Rattle.calls.specs.Inner.{Listed};
-ghost use Rattle.calls.specs.Promise.{as-bytes, Started};
+ghost use Rattle.calls.specs.Inner.{Given, Listed};
+ghost use Rattle.calls.specs.Promise.{as-words, as-bytes, Started};
 
-// A lent table's length is wrong.
-fn wrong_length() -> StartList
-    ensures { λ r. ⌜ r ≡ starts.Refused (refusal TableLength 0) ⌝ }
-{
-    StartList::Refused(Refusal {
-        reason: Reason::TableLength,
-        place: 0,
-    })
-}
-
-// The starts for a site and a rule that were read. The byte table is scratch, and cleared in the end.
+// The starts for a site and a rule that were read, and how many. The byte table is scratch, and cleared in the end.
 fn list<'a>(
     site: &[u8],
     triples: usize,
     rule: &[u8],
     starts: &[usize; RECORDS],
-    count: usize,
+    records: usize,
     up: &'a [u8; RECORDS],
     role: &'a [u8; RECORDS],
     first: &'a [u8; RECORDS],
@@ -48,16 +38,16 @@ fn list<'a>(
     asked: &mut [u8],
     numbers: &mut [u8],
     third: &mut [u8],
-)
-    requires { ⌜ Ready (now site) triples (now rule) (now starts) count (now up) (now role) (now first) × Whole (now asked) × Full (now numbers) × (length (now third) ≡ terms) × (0 < count) ⌝ }
-    ensures { λ _. ⌜ Listed (now (site .entry)) triples (now (rule .entry)) count (now (up .entry)) (now (role .entry)) (now (first .entry)) end (now (asked .exit)) (now (numbers .exit)) (now (third .exit)) ⌝ }
+) -> usize
+    requires { ⌜ Given (now site) (now rule) triples records (now starts) (links (now up) (now role) (now first)) × Full (now numbers) × Whole (now asked) × (length (now third) ≡ terms) ⌝ }
+    ensures { λ k. ⌜ Listed (now (site .entry)) triples (now (rule .entry)) records (now (up .entry)) (now (role .entry)) (now (first .entry)) end (now (asked .exit)) (now (numbers .exit)) (now (third .exit)) k ⌝ }
 {
     fill(
         site,
         triples,
         rule,
         starts,
-        count,
+        records,
         up,
         role,
         first,
@@ -65,8 +55,9 @@ fn list<'a>(
         asked,
         numbers,
     );
-    tell(numbers, count - 1, third);
-    clear(asked)
+    tell(numbers, records - 1, third);
+    clear(asked);
+    count(third)
 }
 
 // The starts of an end, on tables of bytes.
@@ -80,37 +71,59 @@ pub fn starts_bytes(
 ) -> StartList
     ensures { λ r. ⌜ Started as-bytes (now (site .entry)) (now (rule .entry)) end (now (asked .entry)) (now (numbers .entry)) (now (third .entry)) (now (asked .exit)) (now (numbers .exit)) (now (third .exit)) r ⌝ }
 {
-    if asked.len() != RECORDS * TERMS {
-        return wrong_length();
-    }
-    if numbers.len() != RECORDS * TERMS + RECORDS * TERMS {
-        return wrong_length();
-    }
-    if third.len() != TERMS {
-        return wrong_length();
+    if !fit(asked.len(), numbers.len(), third.len(), BYTES, TERMS) {
+        return StartList::Refused(Refusal {
+            reason: Reason::TableLength,
+            place: 0,
+        });
     }
     let admission = admit(site, rule, 0, end);
     let starts = admission.starts;
     let links = admission.links;
     let verdict = admission.verdict;
     match verdict {
-        Verdict::Ready(query) => {
-            list(
-                site,
-                query.triples,
-                rule,
-                &starts,
-                query.count,
-                &links.up,
-                &links.role,
-                &links.first,
-                query.end,
-                asked,
-                numbers,
-                third,
-            );
-            StartList::Found(count(third))
-        }
+        Verdict::Ready(query) => StartList::Found(list(
+            site,
+            query.triples,
+            rule,
+            &starts,
+            query.count,
+            &links.up,
+            &links.role,
+            &links.first,
+            query.end,
+            asked,
+            numbers,
+            third,
+        )),
         Verdict::Refused(refusal) => StartList::Refused(refusal),
+    }
+}
+
+// The starts of an end, on tables of numbers: the same on a local table of bytes, copied out where there is an answer.
+pub fn starts(
+    site: &[u8],
+    rule: &[u8],
+    end: u32,
+    asked: &mut [u8],
+    numbers: &mut [u16],
+    third: &mut [u8],
+) -> StartList
+    ensures { λ r. ⌜ Started as-words (now (site .entry)) (now (rule .entry)) end (now (asked .entry)) (now (numbers .entry)) (now (third .entry)) (now (asked .exit)) (now (numbers .exit)) (now (third .exit)) r ⌝ }
+{
+    if !fit(asked.len(), numbers.len(), third.len(), ENTRIES, TERMS) {
+        return StartList::Refused(Refusal {
+            reason: Reason::TableLength,
+            place: 0,
+        });
+    }
+    let mut bytes = [0u8; BYTES];
+    let list = starts_bytes(site, rule, end, asked, &mut bytes, third);
+    match list {
+        StartList::Found(found) => {
+            copy_back(&bytes, numbers);
+            StartList::Found(found)
+        }
+        StartList::Refused(refusal) => StartList::Refused(refusal),
     }
 }

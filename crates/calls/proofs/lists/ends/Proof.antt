@@ -1,5 +1,5 @@
--- `calls::lists::ends` meets its contract: the lengths, then the admission, then the tables decide; the numbers
--- are worked in a local table of bytes and copied out. The reasoning is in `Listing`.
+-- `calls::lists::ends` meets its contract: the lengths decide, and then what the call over bytes says of a local table.
+-- The reasoning is in `Listing`.
 use Prim.Native.Nat.{_+_, _*_}
 use mathlib.Core.Path.{_≡_, sym, _∙_}
 use lib.ListN.{length}
@@ -11,7 +11,8 @@ use Rattle.fewest.specs.Table.{Full}
 use Rattle.path.specs.Tells.{Tells}
 use Rattle.path.proofs.Telling.{told, told-not}
 use Rattle.calls.specs.Promise.{as-words, Fits}
-use Rattle.calls.proofs.Listing.{fitting, may-list, ends-short, ends-turned, ends-listed}
+use Rattle.calls.proofs.Fitting.{fitting}
+use Rattle.calls.proofs.Listing.{ends-short, ends-copied, ends-kept}
 use Rattle.calls.proofs.lists.ends.Statement.{statement}
 use Rattle.calls.proofs.lists.ends.Tie as tie
 
@@ -19,7 +20,7 @@ use Rattle.calls.proofs.lists.ends.Tie as tie
 lengths : (c : tie.After-fit) → let args = c .before .before .before .before .before .before .args in
     Tells (Fits as-words (now (args .asked)) (now (args .numbers)) × (length (now (args .third)) ≡ terms)) (c .fit .result)
 unfolding terms records
-lengths c = let args = c .before .before .before .before .before .before .args in fitting as-words (now (args .asked)) (now (args .numbers)) (now (args .third)) (c .fit .ensures)
+lengths c = let args = c .before .before .before .before .before .before .args in fitting as-words (now (args .asked)) (now (args .numbers)) (λ h. h, λ h. h) (c .fit .ensures)
 
 fits : (c : tie.Else1) → let args = c .before .before .before .before .before .before .before .args in
     Fits as-words (now (args .asked)) (now (args .numbers)) × (length (now (args .third)) ≡ terms)
@@ -31,33 +32,29 @@ fit-requires c κs = search needs
 returns : tie.Need-returns
 returns c = ends-short as-words (told-not (lengths (c .before)) (not-true _ (c .if1 .taken)))
 
-admit-requires : tie.Need-admit-requires
-admit-requires c κs = search needs
+slice-aggregate-ends-bytes : tie.Need-slice-aggregate-ends-bytes
+slice-aggregate-ends-bytes c = search needs
 
-enum-known-verdict : tie.Need-enum-known-verdict
-enum-known-verdict c = search needs
+ends-bytes-requires : tie.Need-ends-bytes-requires
+ends-bytes-requires c κs = search needs
 
-slice-aggregate-list : tie.Need-slice-aggregate-list
-slice-aggregate-list c = search needs
-
-list-requires : tie.Need-list-requires
+-- the local table of bytes has its length, after the call too
+full : (c : tie.After-ends-bytes) → length (c .ends-bytes .last .1 .1 .1 .1 .0) ≡ records * terms + records * terms
 unfolding terms records
-list-requires c κs = may-list _ _ (fits (c .before .before .before .before .before .before .before .before .before .before .before .before .before .before) .0 .asked-fits) (sym (slice-aggregate-list (c .before))) (c .before .before .before .before .before .before .before .before .before .before .before .before .before .admit .ensures .ready _ (c .before .before .before .before .before .before .before .before .before .verdict .given .1))
+full c = c .ends-bytes .kept .1 .1 .1 .1 .0 ∙ sym (slice-aggregate-ends-bytes (c .before .before))
 
--- the local table of bytes has its length after the listing too
-full : (c : tie.After-list) → length (c .list .last .1 .1 .1 .1 .1 .1 .1 .1 .1 .1 .0) ≡ records * terms + records * terms
-unfolding terms records
-full c = c .list .kept .1 .1 .1 .1 .1 .1 .1 .1 .1 .1 .0 ∙ sym (slice-aggregate-list (c .before .before))
+enum-known-list : tie.Need-enum-known-list
+enum-known-list c = search needs
 
 slice-aggregate-copy-back : tie.Need-slice-aggregate-copy-back
 slice-aggregate-copy-back c = search needs
 
 copy-back-requires : tie.Need-copy-back-requires
 unfolding Full
-copy-back-requires c κs = (full (c .before .before .before .before .before .before .before), fits (c .before .before .before .before .before .before .before .before .before .before .before .before .before .before .before .before .before .before .before .before .before .before) .0 .numbers-fit)
+copy-back-requires c κs = (full (c .before .before .before .before .before .before .before .before .before .before), fits (c .before .before .before .before .before .before .before .before .before .before .before .before .before .before) .0 .numbers-fit)
 
-enum-known-verdict-2 : tie.Need-enum-known-verdict-2
-enum-known-verdict-2 c = search needs
+enum-known-list-2 : tie.Need-enum-known-list-2
+enum-known-list-2 c = search needs
 
 same-length : tie.Need-same-length
 same-length c = search needs
@@ -69,13 +66,21 @@ same-length-3 : tie.Need-same-length-3
 same-length-3 c = search needs
 
 returns-2 : tie.Need-returns-2
+unfolding terms records
 returns-2 c =
-    let lent = fits (c .before .before .before .before .before .before .before .before .before .before .before .before .before .before .before .before .before .before .before .before .before .before .before .before .before) in
-    ends-listed as-words lent (c .before .before .before .before .before .before .before .before .before .before .before .before .before .before .before .before .before .before .before .before .before .before .before .before .admit .ensures .ready _ (c .before .before .before .before .before .before .before .before .before .before .before .before .before .before .before .before .before .before .before .before .verdict .given .1)) (c .before .before .before .before .before .before .before .before .before .before .list .ensures) (full (c .before .before .before .before .before .before .before .before .before .before))
-    (c .before .before .before .before .before .before .before .before .before .before .list .kept .1 .1 .1 .1 .1 .1 .1 .1 .1 .1 .1 .0 ∙ lent .1) (c .before .before .copy-back .kept .1 .0 ∙ lent .0 .numbers-fit) (c .before .before .copy-back .ensures)
+    ends-copied (fits (c .before .before .before .before .before .before .before .before .before .before .before .before .before .before .before .before .before)) (sym (slice-aggregate-ends-bytes (c .before .before .before .before .before .before .before .before .before .before .before .before .before .before .before))) (c .before .before .before .before .before .before .before .before .before .before .before .before .before .ends-bytes .ensures) (c .before .before .before .before .before .before .list .given .1)
+    (c .before .before .copy-back .ensures)
+
+same-length-4 : tie.Need-same-length-4
+same-length-4 c = search needs
+
+same-length-5 : tie.Need-same-length-5
+same-length-5 c = search needs
 
 returns-3 : tie.Need-returns-3
-returns-3 c = ends-turned as-words (fits (c .before .before .before .before .before .before)) (c .before .before .before .before .before .admit .ensures .refused _ (c .before .verdict2 .given .1))
+unfolding terms records
+returns-3 c =
+    ends-kept (fits (c .before .before .before .before .before .before .before .before .before .before .before .before)) (sym (slice-aggregate-ends-bytes (c .before .before .before .before .before .before .before .before .before .before))) (c .before .before .before .before .before .before .before .before .ends-bytes .ensures) (c .before .list2 .given .1)
 
 pub ends-spec : {M : Type 1} → statement M
 ends-spec =
@@ -83,15 +88,16 @@ ends-spec =
     (tie.spec
     fit-requires
     returns
-    admit-requires
-    enum-known-verdict
-    slice-aggregate-list
-    list-requires
+    slice-aggregate-ends-bytes
+    ends-bytes-requires
+    enum-known-list
     slice-aggregate-copy-back
     copy-back-requires
-    enum-known-verdict-2
+    enum-known-list-2
     same-length
     same-length-2
     same-length-3
     returns-2
+    same-length-4
+    same-length-5
     returns-3)

@@ -1,6 +1,6 @@
 -- `calls::lists::ends_bytes` meets its contract: the lengths, then the admission, then the tables decide.
 -- The reasoning is in `Listing`.
-use mathlib.Core.Path.{_≡_, refl, _∙_}
+use mathlib.Core.Path.{_≡_, _∙_}
 use lib.ListN.{length}
 use borrow.Author.Needs.{needs}
 use borrow.Author.Tests.{not-true, not-false}
@@ -9,7 +9,8 @@ use Rattle.meaning.specs.Limits.{terms, records}
 use Rattle.path.specs.Tells.{Tells}
 use Rattle.path.proofs.Telling.{told, told-not}
 use Rattle.calls.specs.Promise.{as-bytes, Fits}
-use Rattle.calls.proofs.Listing.{fitting, may-list, ends-short, ends-turned, ends-listed}
+use Rattle.calls.proofs.Fitting.{fitting}
+use Rattle.calls.proofs.Listing.{may-list, ends-short, ends-turned, ends-listed}
 use Rattle.calls.proofs.lists.ends_bytes.Statement.{statement}
 use Rattle.calls.proofs.lists.ends_bytes.Tie as tie
 
@@ -17,7 +18,7 @@ use Rattle.calls.proofs.lists.ends_bytes.Tie as tie
 lengths : (c : tie.After-fit) → let args = c .before .before .before .before .before .before .args in
     Tells (Fits as-bytes (now (args .asked)) (now (args .numbers)) × (length (now (args .third)) ≡ terms)) (c .fit .result)
 unfolding terms records
-lengths c = let args = c .before .before .before .before .before .before .args in fitting as-bytes (now (args .asked)) (now (args .numbers)) (now (args .third)) (c .fit .ensures)
+lengths c = let args = c .before .before .before .before .before .before .args in fitting as-bytes (now (args .asked)) (now (args .numbers)) (λ h. h, λ h. h) (c .fit .ensures)
 
 fits : (c : tie.Else1) → let args = c .before .before .before .before .before .before .before .args in
     Fits as-bytes (now (args .asked)) (now (args .numbers)) × (length (now (args .third)) ≡ terms)
@@ -57,10 +58,10 @@ returns-2 c =
     let lent = fits (c .before .before .before .before .before .before .before .before .before .before .before .before .before .before .before .before .before .before .before .before .before) in
     let tables = c .before .before .before .before .before .before .list .kept .1 .1 .1 .1 .1 .1 .1 .1 .1 .1 in
     let full = tables .0 ∙ lent .0 .numbers-fit in
-    ends-listed as-bytes lent (c .before .before .before .before .before .before .before .before .before .before .before .before .before .before .before .before .before .before .before .before .admit .ensures .ready _ (c .before .before .before .before .before .before .before .before .before .before .before .before .before .before .before .before .verdict .given .1)) (c .before .before .before .before .before .before .list .ensures) full (tables .1 .0 ∙ lent .1) full refl
+    ends-listed lent (c .before .before .before .before .before .before .before .before .before .before .before .before .before .before .before .before .before .before .before .before .admit .ensures .ready _ (c .before .before .before .before .before .before .before .before .before .before .before .before .before .before .before .before .verdict .given .1)) (c .before .before .before .before .before .before .list .ensures) full (tables .1 .0 ∙ lent .1)
 
 returns-3 : tie.Need-returns-3
-returns-3 c = ends-turned as-bytes (fits (c .before .before .before .before .before .before)) (c .before .before .before .before .before .admit .ensures .refused _ (c .before .verdict2 .given .1))
+returns-3 c = ends-turned (fits (c .before .before .before .before .before .before)) (c .before .before .before .before .before .admit .ensures .refused _ (c .before .verdict2 .given .1))
 
 pub ends-bytes-spec : {M : Type 1} → statement M
 ends-bytes-spec =

@@ -1,11 +1,10 @@
--- `calls::lists::fit` meets its contract: each length is compared, and the first that differs says no.
+-- `calls::lengths::fit` meets its contract: each length is compared, and the first that differs says no.
 use native.Mathlib.Omega.{arith}
-use borrow.Author.Needs.{needs}
 use Rattle.meaning.specs.Limits.{terms, records}
 use Rattle.path.specs.Tells.{fails}
-use Rattle.calls.proofs.Listing.{third-tells}
-use Rattle.calls.proofs.lists.fit.Statement.{statement}
-use Rattle.calls.proofs.lists.fit.Tie as tie
+use Rattle.calls.proofs.Fitting.{third-tells}
+use Rattle.calls.proofs.lengths.fit.Statement.{statement}
+use Rattle.calls.proofs.lengths.fit.Tie as tie
 
 returns : tie.Need-returns
 unfolding terms records
@@ -16,7 +15,7 @@ returns-2 c = fails (λ h. omega (arith, h .1, c .if2 .taken))
 
 returns-3 : tie.Need-returns-3
 unfolding terms records
-returns-3 c = third-tells (c .before .if1 .left) (c .if2 .left) _
+returns-3 c = third-tells (c .before .if1 .left) (c .if2 .left) _ _
 
 pub fit-spec : {M : Type 1} → statement M
 fit-spec = tie.close (tie.spec returns returns-2 returns-3)
