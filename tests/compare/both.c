@@ -10,6 +10,16 @@
 #include <string.h>
 #include <sys/mman.h>
 #include <unistd.h>
+#ifdef MEMCHECK /* under valgrind what a call may not touch is shut, and what it may not depend on is undefined */
+#include <valgrind/memcheck.h>
+#define SHUT(bytes, length) VALGRIND_MAKE_MEM_NOACCESS(bytes, length)
+#define UNSET(bytes, length) VALGRIND_MAKE_MEM_UNDEFINED(bytes, length)
+#define OPEN(bytes, length) VALGRIND_MAKE_MEM_DEFINED(bytes, length)
+#else
+#define SHUT(bytes, length) ((void)0)
+#define UNSET(bytes, length) ((void)0)
+#define OPEN(bytes, length) ((void)0)
+#endif
 
 enum { MARGIN = 64, SPAN = BOTH_LENT + 2 * MARGIN, SHOWN = 12, PATIENCE = 120 };
 
@@ -81,6 +91,7 @@ static uint8_t likely(const lent *l, size_t i)
 static void lend(lent *l, size_t length, const uint8_t *source)
 {
     int flush = scatter() % 2, style = (int)(scatter() % 8);
+    OPEN(l->base, SPAN);
     l->length = length;
     l->behind = flush ? 0 : MARGIN;
     l->bytes = flush ? l->base + SPAN - length : l->base + MARGIN;
@@ -93,6 +104,9 @@ static void lend(lent *l, size_t length, const uint8_t *source)
     for (size_t i = 0; source && i < l->behind; i++) l->bytes[length + i] = likely(l, i);
     memcpy(l->before, l->bytes - MARGIN, MARGIN + length + l->behind);
     memcpy(l->own, l->bytes, length);
+    SHUT(l->bytes - MARGIN, MARGIN);
+    SHUT(l->bytes + length, l->behind);
+    if (!source) UNSET(l->bytes, length);
 }
 
 /* What a caller passes: nothing at all may stand for a buffer of no length. */
@@ -112,6 +126,7 @@ static void show_entry(const lent *l, size_t i)
 
 static void returned(const lent *l)
 {
+    OPEN(l->base, SPAN);
     for (size_t i = 0; i < MARGIN; i++)
         if ((l->bytes - MARGIN)[i] != l->before[i] && differ())
             printf("difference: %s: byte %zu ahead of the %s was written\n", call, MARGIN - i, l->name);

@@ -1,4 +1,4 @@
-/* compare N SEED: N random inputs through the C calls and through the second program; any difference fails.
+/* compare N SEED [FROM]: N random inputs through the C calls and through the second program; any difference fails.
    It also fails where N is large and a kind of outcome never came up, so that a pass says what was tried. */
 #include "both.h"
 #include "inputs.h"
@@ -39,15 +39,16 @@ int main(int count, char **words)
     unsigned long number, failed = 0;
     both_begin();
     if (count == 11 && strcmp(words[1], "replay") == 0) return replay(words + 2);
-    if (count != 3) {
-        fprintf(stderr, "usage: compare N SEED, or compare and a replay line that it printed\n");
+    if (count != 3 && count != 4) {
+        fprintf(stderr, "usage: compare N SEED [FROM], or compare and a replay line that it printed\n");
         return 2;
     }
     unsigned long wanted = strtoul(words[1], NULL, 10), seed = strtoul(words[2], NULL, 10);
+    unsigned long from = count == 4 ? strtoul(words[3], NULL, 10) : 0;
     for (number = 0; number < wanted && failed < MOST_FAILED; number++) {
-        draw(&in, seed, number);
+        draw(&in, seed, from + number);
         if (both_check(&in, &seen)) {
-            printf("that was case %lu of seed %lu\n", number, seed);
+            printf("that was case %lu of seed %lu: compare 1 %lu %lu\n", from + number, seed, seed, from + number);
             failed++;
         }
     }

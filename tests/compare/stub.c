@@ -1,16 +1,19 @@
-/* With -DSELF, the four C calls by the second program itself, to try the drivers before there is a library.
-   With -DBROKEN=n as well, broken in the n-th way (plain -DBROKEN is the first): the drivers must then fail. */
+/* The four C calls by the second program itself, to try the drivers without the library.
+   BROKEN=n in the environment breaks them in the n-th way: the drivers must then fail. */
 #include "carolivy.h"
 #include "second.h"
-#ifdef SELF
-#ifndef BROKEN
-#define BROKEN 0
-#endif
+#include <stdlib.h>
 
 /* 1 to 16: figure, a number, behind the room, ahead of a table, the site, 14's place, cut query terms, the room's rest,
    the room on no, a table on a refusal, the third table, a figure at 15, an unused field, a read past the rule's end,
    tables untouched at 15, lengths unchecked. */
-static int broken(int way) { return BROKEN == way; }
+static int broken(int way)
+{
+    static int which = -1;
+    const char *text = getenv("BROKEN");
+    if (which < 0) which = text ? atoi(text) : 0;
+    return which == way;
+}
 static uint32_t query(uint32_t term) { return broken(7) ? term % 65536 : term; }
 
 carolivy_decision carolivy_decide(const uint8_t *site, size_t site_length, const uint8_t *rule, size_t rule_length, uint32_t start, uint32_t end,
@@ -65,6 +68,3 @@ carolivy_ceiling carolivy_ceiling_of(const uint8_t *site, size_t site_length, co
     carolivy_ceiling r = { a.refusal, 0, a.place, a.ceiling };
     return r;
 }
-#else
-typedef int nothing_to_stub; /* the library is linked instead */
-#endif
