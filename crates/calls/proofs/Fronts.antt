@@ -9,7 +9,8 @@ use lib.ListN.{length, drop, length-append, length-drop}
 use lib.Seq.{drop-nil, take-append-seam, drop-append-add, drop-drop, sets, sets-eq}
 use Rattle.meaning.specs.Path.{Path, taken}
 use Rattle.meaning.specs.Path as meant
-use Rattle.fewest.specs.Pairs.{base, pairs}
+use Rattle.records.specs.Bytes.{base}
+use Rattle.fewest.specs.Pairs.{pairs}
 use Rattle.path.specs.declared.Taken.{Taken}
 use Rattle.calls.specs.Tables.{written}
 use Rattle.calls.specs.Promise.{Form, as-words, as-bytes, numbersOf, spread, lent, lengthIn}

@@ -16,7 +16,8 @@ use Rattle.meaning.specs.Fewest.{Goal, Numbers}
 use Rattle.meaning.specs.Question.{Tells}
 use Rattle.meaning.proofs.Names.{node-named}
 use Rattle.meaning.proofs.Ways.{fewest-unique}
-use Rattle.fewest.specs.Pairs.{base, pairs}
+use Rattle.records.specs.Bytes.{base}
+use Rattle.fewest.specs.Pairs.{pairs}
 use Rattle.fewest.specs.Offer.{view}
 use Rattle.calls.specs.Tables.{QuestionTable, NumberTable, TermTable}
 use Rattle.calls.specs.Promise.{Form, as-words, as-bytes, numbersOf, lengthIn, spread}

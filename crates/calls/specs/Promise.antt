@@ -17,7 +17,8 @@ use Rattle.records.specs.declared.Refusal.{Refusal}
 use Rattle.records.specs.declared.Reason.the-variants.{Room}
 use Rattle.records.specs.Sites.{siteOf}
 use Rattle.records.specs.Rules.{refusal}
-use Rattle.fewest.specs.Pairs.{base, pairs}
+use Rattle.records.specs.Bytes.{base}
+use Rattle.fewest.specs.Pairs.{pairs}
 use Rattle.calls.specs.declared.Decision.{Decision}
 use Rattle.calls.specs.declared.Decision.the-variants as decision
 use Rattle.calls.specs.declared.EndList.{EndList}

@@ -10,7 +10,7 @@ use Rattle.meaning.specs.Expression.{Rec, Expr, whole}
 use Rattle.meaning.specs.Path.{Path}
 use Rattle.meaning.specs.Shown.{Shown}
 use Rattle.meaning.specs.Fewest.{Goal, entered, Way, Fewest}
-use Rattle.fewest.specs.Pairs.{base}
+use Rattle.records.specs.Bytes.{base}
 use Rattle.fewest.specs.declared.links.Links.{Links}
 use Rattle.path.specs.declared.Taken.{Taken}
 use Rattle.path.specs.Walking.{Known}

@@ -6,7 +6,8 @@ use mathlib.Core.List.{List, [], _∷_, _++_, append-nil}
 use native.Mathlib.Omega.{arith}
 use lib.ListN.{length, getD, set, drop, replicate}
 use lib.Seq.{drop-length}
-use Rattle.fewest.specs.Pairs.{base, pairs}
+use Rattle.records.specs.Bytes.{base}
+use Rattle.fewest.specs.Pairs.{pairs}
 
 twice : (i : ℕ) → suc i + suc i ≡ suc (suc (i + i))
 twice i = omega arith

@@ -1,10 +1,7 @@
 -- A table of numbers as byte pairs, high byte first.
 use Prim.Native.Nat.{ℕ, _+_, _*_}
 use mathlib.Core.List.{List, [], _∷_}
-
--- what a byte counts up to: the base of a number's two digits
-abbrev pub base : ℕ
-base = 256
+use Rattle.records.specs.Bytes.{base}
 
 -- the numbers that the bytes are, two bytes a number
 unfoldable pub pairs : List ℕ → List ℕ

@@ -2,12 +2,12 @@
 ghost use mathlib.Core.Path.{_≡_};
 ghost use Prim.Native.Nat.{_+_, _*_, _<_};
 ghost use lib.ListN.{length, getD, set};
-ghost use Rattle.fewest.specs.Pairs.{base, pairs};
-
-const BASE: usize = 256;
+ghost use Rattle.records.specs.Bytes.{base};
+ghost use Rattle.fewest.specs.Pairs.{pairs};
+use records::bytes::BASE;
 
 fn wide(x: u8) -> usize
-    ensures { λ r. ⌜ (r ≡ x) × (r < 256) ⌝ }
+    ensures { λ r. ⌜ (r ≡ x) × (r < base) ⌝ }
 {
     x as usize
 }

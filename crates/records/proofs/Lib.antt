@@ -1,7 +1,10 @@
 -- What reading a site and a rule gives, and that it gives one answer.
 pub mod Tests
+pub mod Numbers
 pub mod SiteRecord
 pub mod Sites
+pub mod Readers
+pub mod ReaderParts
 pub mod Reading
 pub mod Progress
 pub mod Checked

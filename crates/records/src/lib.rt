@@ -1,7 +1,7 @@
 // Bytes to triples, rule records and query terms, with document 01's numbered refusals.
 // The limits of document 01 are named here and nowhere else in code.
 pub mod bytes; // bytes.rt: numbers as they stand in bytes
-pub mod site; // site.rt: site records and whole sites
+pub mod site; // site.rt: site records, their reader, whole sites
 pub mod rule; // rule.rt: rule records, whole rules, the first record of an expression
 pub mod query; // query.rt: the terms of a query
 

@@ -1,8 +1,10 @@
-// Site records: one triple each, and a whole site checked record by record.
+// Site records: one triple each; the reader that hands them out; and a whole site checked through it.
+// `site_record` decides what stands at a place. The reader only keeps the bytes and the place, and its functions are proved by hand.
 ghost use mathlib.Core.Path.{_≡_};
-ghost use Prim.Native.Nat.{_+_, _*_, _≤_};
+ghost use Prim.Native.Nat.{_+_, _*_, _-_, _≤_};
 ghost use lib.ListN.{length};
 ghost use Rattle.records.specs.Sites.{tripleWidth, tripleOf, inCode, allTerms, isAbove, inOrder, denial, siteRecordAt, finished, Checked};
+ghost use Rattle.records.specs.Reader.{handed, standing, Hands};
 use crate::Reason;
 use crate::Refusal;
 use crate::TRIPLES;
@@ -121,6 +123,79 @@ pub fn site_record(site: &[u8], at: usize) -> SiteRecord
     SiteRecord::Triple(x)
 }
 
+// What is handed out at a place, and the place where reading goes on.
+pub struct Handed {
+    pub found: SiteRecord,
+    pub at: usize,
+}
+
+// The record at a place, and the place past its triple; at the end and at a refusal reading stands still.
+fn hand_out(site: &[u8], at: usize) -> Handed
+    ensures { λ r. ⌜ r ≡ handed (now (site .entry)) at ⌝ }
+{
+    let found = site_record(site, at);
+    let SiteRecord::Triple(_) = found else {
+        return Handed { found, at };
+    };
+    Handed {
+        found,
+        at: at + TRIPLE_WIDTH,
+    }
+}
+
+// How many bytes stand at a place and behind it.
+fn left_from(site: &[u8], at: usize) -> usize
+    ensures { λ r. ⌜ r ≡ length (now (site .entry)) - at ⌝ }
+{
+    if site.len() <= at {
+        return 0;
+    }
+    site.len() - at
+}
+
+// The site reader: the lent bytes and its place in them. The count of triples read is the place divided by a record's length.
+pub struct SiteReader<'a> {
+    site: &'a [u8],
+    at: usize,
+}
+
+impl<'a> SiteReader<'a> {
+    // A reader that stands at a place of a site.
+    pub fn new(site: &'a [u8], at: usize) -> SiteReader<'a>
+        ensures { λ r. ⌜ r ≡ standing (site .entry) at ⌝ }
+    {
+        SiteReader { site, at }
+    }
+
+    // The next triple, the end, or the refusal; after the end or a refusal the same again.
+    pub fn next<'s>(&'s mut self) -> SiteRecord
+        ensures { λ r. ⌜ Hands (now (self .entry)) r (now (self .exit)) ⌝ }
+    {
+        let step = hand_out(self.site, self.at);
+        self.at = step.at;
+        step.found
+    }
+
+    // How many bytes are left.
+    pub fn left(self) -> usize
+        ensures { λ r. ⌜ r ≡ length (now (self .entry .site)) - self .entry .at ⌝ }
+    {
+        left_from(self.site, self.at)
+    }
+}
+
+// What a reader that stands at a place hands out, and where it stands then.
+pub fn read_at(site: &[u8], at: usize) -> Handed
+    ensures { λ r. ⌜ r ≡ handed (now (site .entry)) at ⌝ }
+{
+    let mut reader = SiteReader::new(site, at);
+    let found = reader.next();
+    Handed {
+        found,
+        at: reader.at,
+    }
+}
+
 // The answer where reading stops after so many triples; at a triple it does not stop.
 fn finish(got: SiteRecord, count: usize) -> SiteAnswer
     ensures { λ r. ⌜ r ≡ finished got count ⌝ }
@@ -136,12 +211,13 @@ fn finish(got: SiteRecord, count: usize) -> SiteAnswer
 pub fn check_site(site: &[u8]) -> SiteAnswer
     ensures { λ r. ⌜ Checked (now (site .entry)) r ⌝ }
 {
-    let mut count: usize = 0;
+    let mut at: usize = 0;
     loop {
-        let got = site_record(site, count * TRIPLE_WIDTH);
-        let SiteRecord::Triple(_) = got else {
-            return finish(got, count);
+        let step = read_at(site, at);
+        let found = step.found;
+        let SiteRecord::Triple(_) = found else {
+            return finish(found, at / TRIPLE_WIDTH);
         };
-        count += 1;
+        at = step.at;
     }
 }

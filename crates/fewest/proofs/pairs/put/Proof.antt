@@ -3,7 +3,8 @@ use Prim.Native.Nat.{_+_, _*_, _/_, _%_}
 use mathlib.Core.Path.{_≡_, _∙_, ap}
 use native.Mathlib.Omega.{arith}
 use lib.ListN.{set}
-use Rattle.fewest.specs.Pairs.{base, pairs}
+use Rattle.records.specs.Bytes.{base}
+use Rattle.fewest.specs.Pairs.{pairs}
 use Rattle.fewest.proofs.Decoded.{pairs-set}
 use borrow.Author.Needs.{needs}
 use Rattle.fewest.proofs.pairs.put.Statement.{statement}
