@@ -42,7 +42,7 @@ module _ {F : Type 0} {s r : List ℕ} {qs : List Asked-of} {n m : ℕ} {e g : E
   here : (P : Site → Expr → Type 0) → P (siteOf s m) g → P (siteOf s n) e
   here P = let (same, alike) = admits-unique p q in subst₂ P (ap (siteOf s) (sym same)) (sym alike)
 
-  same-count : {A : Type 0} (P : Site → Expr → A → Type 0) {c d : ℕ} → Count (P (siteOf s n) e) c → Count (P (siteOf s m) g) d → c ≡ d
+  pub same-count : {A : Type 0} (P : Site → Expr → A → Type 0) {c d : ℕ} → Count (P (siteOf s n) e) c → Count (P (siteOf s m) g) d → c ≡ d
   same-count P {d = d} x y = count-unique x (here (λ S h. Count (P S h) d) y)
 
   same-questions : {z : ℕ} {b c : List ℕ} → QuestionTable (siteOf s n) e z b → QuestionTable (siteOf s m) g z c → b ≡ c
@@ -62,16 +62,16 @@ module _ {F : Type 0} {s r : List ℕ} {qs : List Asked-of} {n m : ℕ} {e g : E
   same-filled f small as-small x y =
       (same-questions (x .questions) (y .questions), same-numbers f small as-small (x .long) (y .long) (x .fewest) (y .fewest))
 
-  same-path : (z v : ℕ) {x y : Path} → Shown (λ o. Conforms (siteOf s n) e z o v) x →
+  pub same-path : (z v : ℕ) {x y : Path} → Shown (λ o. Conforms (siteOf s n) e z o v) x →
       Shown (λ o. Conforms (siteOf s m) g z o v) y → x ≡ y
   same-path z v {y = y} a b = shown-unique a (here (λ S h. Shown (λ o. Conforms S h z o v) y) b)
 
   -- the fewest steps are those of the path shown, and one number
-  same-steps : (z v : ℕ) {x : Path} {k : ℕ} → Shown (λ o. Conforms (siteOf s n) e z o v) x →
+  pub same-steps : (z v : ℕ) {x : Path} {k : ℕ} → Shown (λ o. Conforms (siteOf s n) e z o v) x →
       Fewest (λ o. Conforms (siteOf s m) g z o v) k → length x ≡ k
   same-steps z v {k = k} a b = shown-fewest (here (λ S h. Fewest (λ o. Conforms S h z o v) k) b) a
 
-  same-fewest : (z v : ℕ) {j k : ℕ} → Fewest (λ o. Conforms (siteOf s n) e z o v) j →
+  pub same-fewest : (z v : ℕ) {j k : ℕ} → Fewest (λ o. Conforms (siteOf s n) e z o v) j →
       Fewest (λ o. Conforms (siteOf s m) g z o v) k → j ≡ k
   same-fewest z v {k = k} a b = fewest-unique a (here (λ S h. Fewest (λ o. Conforms S h z o v) k) b)
 
@@ -81,13 +81,13 @@ module _ {F : Type 0} {s r : List ℕ} {qs : List Asked-of} {n m : ℕ} {e g : E
   room-holds f z v {x} a b h l = let i = rw (lent-long f x, same-steps z v a b) at h in omega arith
 
   -- there are no fewest steps where the pair is not related
-  not-some : (z v : ℕ) {k : ℕ} → (Rel (siteOf s n) e z v → ⊥) → Fewest (λ o. Conforms (siteOf s m) g z o v) k → k < none → ⊥
+  pub not-some : (z v : ℕ) {k : ℕ} → (Rel (siteOf s n) e z v → ⊥) → Fewest (λ o. Conforms (siteOf s m) g z o v) k → k < none → ⊥
   not-some z v never b h =
       let (x, conforms) = fewest-some b .0 h in
       never (related-iff-path (siteOf s n) e z v .1 (x, here (λ S h. Conforms S h z x v) conforms))
 
   -- no path is shown where the pair is not related
-  not-shown : (z v : ℕ) {x : Path} → (Rel (siteOf s n) e z v → ⊥) → Shown (λ o. Conforms (siteOf s m) g z o v) x → ⊥
+  pub not-shown : (z v : ℕ) {x : Path} → (Rel (siteOf s n) e z v → ⊥) → Shown (λ o. Conforms (siteOf s m) g z o v) x → ⊥
   not-shown z v {x} never b = never (related-iff-path (siteOf s n) e z v .1 (x, here (λ S h. Conforms S h z x v) (b .conforms)))
 
 module _ {f : Form} {s r a n m a₁ n₁ m₁ a₂ n₂ m₂ : List ℕ} where
