@@ -13,23 +13,23 @@ use Rattle.asked.specs.Mark.{Marks, marks, begun}
 use Rattle.asked.specs.Seek.{Whole, Bits, OneMarked, SettledMarks, MarkedOver}
 use Rattle.asked.proofs.Fair.{zeros}
 use Rattle.asked.proofs.Fit.{Fit}
-use Rattle.asked.proofs.OneMark.{one-whole, one-bits}
+use Rattle.asked.proofs.OneMark.{one-whole}
 
 -- zeros are bits
 zeros-bits : (n : ℕ) → Bits (replicate n 0)
 unfolding Bits
 zeros-bits n i = omega (arith, zeros n i)
 
--- a cleared byte table is fit
-pub cleared-fit : {b : List ℕ} → b ≡ replicate (records * terms) 0 → Whole b × Bits b
+-- a byte table without a mark is whole
+pub cleared-whole : {b : List ℕ} → b ≡ replicate (records * terms) 0 → Whole b
 unfolding Whole
-cleared-fit clear = rw clear (length-replicate {A = ℕ} (records * terms) 0, zeros-bits (records * terms))
+cleared-whole clear = rw clear (length-replicate {A = ℕ} (records * terms) 0)
 
--- So are both after the mark, and the marks are those that the rule begins with.
+-- Both are fit after the mark, and the marks are those that the rule begins with.
 module _ {r z : ℕ} {b b′ e : List ℕ} {was more : Bool} (n : ℕ) (clear : b ≡ replicate (records * terms) 0) (clear-ends : e ≡ replicate n 0)
     (one : OneMarked r z b b′ was more) where
   pub begun-fit : Fit (marks b′ e)
-  begun-fit = let (whole, bits) = cleared-fit clear in (one-whole bits one whole, one-bits bits one, rw clear-ends (zeros-bits n))
+  begun-fit = (one-whole (rw clear (zeros-bits (records * terms))) one (cleared-whole clear), rw clear-ends (zeros-bits n))
 
   pub begun-marks : marks b′ e ≡ begun r z n
   unfolding begun view

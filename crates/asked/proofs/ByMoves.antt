@@ -3,7 +3,7 @@
 use Prim.Native.Nat.{ℕ, _*_, _≤_}
 use mathlib.Core.Path.{_≡_, refl, _∙_}
 use mathlib.Core.Logic.{inl, inr}
-use mathlib.Core.Bool.{Bool}
+use mathlib.Core.Bool.{Bool, true}
 use mathlib.Core.List.{List}
 use native.Mathlib.Omega.{arith}
 use lib.ListN.{length}
@@ -15,17 +15,17 @@ use Rattle.meaning.specs.Fewest.{Goal, anywhere}
 use Rattle.records.specs.declared.Triple.{Triple}
 use Rattle.records.specs.declared.Label.{Label}
 use Rattle.records.specs.declared.Label.the-variants.{Any, Term, Test}
-use Rattle.records.specs.Sites.{siteOf, tripleOf, tripleWidth, inCode}
+use Rattle.records.specs.Sites.{tripleOf, tripleWidth, inCode}
 use Rattle.fewest.specs.Frame.{Frame, frame}
 use Rattle.fewest.specs.Offer.{Work, stepping, resting}
 use Rattle.fewest.specs.Sweep.{Swept}
-use Rattle.fewest.specs.Work.{workOf, Has, at-word, Nameless}
-use Rattle.fewest.proofs.Sweeps.{swept-then, swept-weaken}
+use Rattle.fewest.specs.Work.{workOf, Has, at-word, earlier, looked, StandsEarlier, Nameless}
+use Rattle.fewest.proofs.Sweeps.{swept-none, swept-then, swept-weaken}
 use Rattle.fewest.proofs.Loops.{Seen}
 use Rattle.fewest.proofs.ByTriples.{Takes, by-triple}
 use Rattle.fewest.proofs.Resting.{word, subject-is, object-is, each-word}
 use Rattle.asked.specs.Mark.{Marks, Marked, blanks, Done, by-step, by-test, by-rest, Asking, follows, tests, Marking, Calm}
-use Rattle.asked.specs.Seek.{AllNext, CalmBy, Rested, Stay, as-empty, as-step, AtEnds, RestedBy, WorkSought}
+use Rattle.asked.specs.Seek.{AllNext, CalmBy, Rested, Stay, as-empty, as-step, RestedNew, AtEnds, RestedBy, WorkSought}
 use Rattle.asked.proofs.Marking.{marking-chain}
 use Rattle.asked.proofs.Fit.{Fit, marking-fit}
 
@@ -74,26 +74,36 @@ step-sought l takes past p = swept-weaken (λ seen. calm-step l (λ k t i u v.
     let (below, any-label, _) = by-triple takes v in seen k (omega arith) t i u any-label)) p
 
 -- Staying was looked at, as the work that it is.
-rested-as : {s : meant.Site} {up role T : List ℕ} {g : Goal} {l : Label} {w : Work} {r t : ℕ} {M N : Marks} {was more : Bool} → Stay l w →
+pub rested-as : {s : meant.Site} {up role T : List ℕ} {g : Goal} {l : Label} {w : Work} {r t : ℕ} {M N : Marks} {was more : Bool} → Stay l w →
     meant.Voc s t → Rested up role T l r t M N was more →
     Swept blanks (Marking (frame s up role g) T w r) (CalmBy (frame s up role g) T l r t t t) M N was more
 rested-as {s} {g = g} as-empty v p = p .empty s g v refl
 rested-as {s} {g = g} as-step v p = p .self-step s g (at-word v)
 
+-- What was looked at is seen; what was not, since it stands in an earlier triple, was seen there.
+pub rested-seen : (b : List ℕ) (k : ℕ) {up role T : List ℕ} {l : Label} {r t : ℕ} {M N : Marks} {was more : Bool} →
+    Rested up role T l r t M N was more → RestedNew b k up role T l r t M N was more
+rested-seen b k p = λ n w g good h stay v. swept-weaken looked (rested-as stay v p)
+
+pub rested-earlier : (b : List ℕ) (k : ℕ) (up role T : List ℕ) (l : Label) (r t : ℕ) {M : Marks} {was : Bool} → StandsEarlier b k t true →
+    RestedNew b k up role T l r t M M was was
+rested-earlier b k up role T l r t stood = λ n w g good h stay v.
+    let (j, before, stands) = stood n h refl in swept-none marking-chain (earlier before stands)
+
 -- After a look at staying at the subject of a triple the tables are fit.
 pub rested-fit : (b : List ℕ) {k : ℕ} {x : Triple} → Has b k → x ≡ inCode (tripleOf b (k * tripleWidth)) → {up role T : List ℕ} {l : Label}
-    {r : ℕ} {M N : Marks} {was more : Bool} → Rested up role T l r (x .subject) M N was more → Fit M → Fit N
+    {r : ℕ} {M N : Marks} {was more : Bool} → RestedNew b k up role T l r (x .subject) M N was more → Fit M → Fit N
 rested-fit b (n, good, h) here p =
-    marking-fit (p .self-step (siteOf b n) anywhere (at-word (word b h (inl (subject-is b here h)))) .reached)
+    marking-fit (p n _ anywhere good h as-step (word b h (inl (subject-is b here h))) .reached)
 
--- Staying at the subject and then at the object of triple number k, as the code holds it, was looked at.
+-- Staying at the subject and then at the object of triple number k, as the code holds it, was looked at, where they are new.
 pub ends-rested : (b : List ℕ) {k : ℕ} {x : Triple} → x ≡ inCode (tripleOf b (k * tripleWidth)) → {up role T : List ℕ} {l : Label} {r : ℕ}
-    {M N P : Marks} {was before more : Bool} → Rested up role T l r (x .subject) M N was before →
-    Rested up role T l r (x .object) N P before more → RestedBy b k up role T l r M P was more
+    {M N P : Marks} {was before more : Bool} → RestedNew b k up role T l r (x .subject) M N was before →
+    RestedNew b k up role T l r (x .object) N P before more → RestedBy b k up role T l r M P was more
 ends-rested b here p q = λ n w g good h stay.
     let subject = rw (subject-is b here h) at p in
     let object = rw (object-is b here h) at q in
-    swept-then marking-chain (rested-as stay (word b h (inl refl)) subject) (rested-as stay (word b h (inr refl)) object)
+    swept-then marking-chain (subject n w g good h stay (word b h (inl refl))) (object n w g good h stay (word b h (inr refl)))
 
 -- a self step without a name is taken at a vocabulary term, which is its middle and where it ends
 at-word-only : {F : Frame} {T : List ℕ} {r : ℕ} {X : Marks} (l : Label) → Nameless l →

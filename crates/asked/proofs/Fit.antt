@@ -1,4 +1,4 @@
--- What marking keeps: the byte table has its length, and both tables hold only 0 and 1.
+-- What marking keeps: the byte table has its length, and the ends hold only 0 and 1.
 -- So a loop's tables are fit for its next turn by what it has reached.
 use Prim.Native.Nat.{ℕ}
 use mathlib.Core.Path.{_∙_}
@@ -13,12 +13,12 @@ use Rattle.asked.proofs.Marking.{marking-long, marking-bits}
 
 -- what every function over the tables takes them to be
 abbrev pub Fit : Marks → Type 0
-Fit M = Whole (M .asked) × Bits (M .asked) × Bits (M .ends)
+Fit M = Whole (M .asked) × Bits (M .ends)
 
 -- Marking by one work keeps them fit.
 pub marking-fit : {F : Frame} {T : List ℕ} {w : Work} {r : ℕ} {M N : Marks} → Marking F T w r M N → Fit M → Fit N
 unfolding Whole
-marking-fit p (whole, asked, ends) = let (bits, lent) = marking-bits p asked ends in (marking-long p .0 ∙ whole, bits, lent)
+marking-fit p (whole, ends) = (marking-long p .0 ∙ whole, marking-bits p ends)
 
 -- And so does marking over the records of a rule.
 pub marks-on-fit : {F : Frame} {T : List ℕ} {rs : List Rec} {first : List ℕ} {M N : Marks} → Marks-on F T rs first M N → Fit M → Fit N
@@ -27,5 +27,6 @@ marks-on-fit (work q h i l) fit = marking-fit l (marks-on-fit q fit)
 
 -- Where the ends are not touched, the byte table is fit by itself.
 pub row-fit : {w : Work} {r : ℕ} {b b′ : List ℕ} → ((F : Frame) (T ends : List ℕ) → Marking F T w r (marks b ends) (marks b′ ends)) →
-    Whole b → Bits b → Whole b′ × Bits b′
-row-fit {b = b} p whole bits = let (long, kept, _) = marking-fit (p (frame [] [] [] anywhere) [] b) (whole, bits, bits) in (long, kept)
+    Whole b → Whole b′
+unfolding Whole
+row-fit p whole = marking-long (p (frame [] [] [] anywhere) [] []) .0 ∙ whole

@@ -74,11 +74,11 @@ module _ {F : Frame} {T : List ℕ} {w : Work} {r : ℕ} where
   marking-long (mark {N} q h a e) = let (long, ends) = marking-long q in (length-set (N .asked) _ 1 ∙ long, ends)
   marking-long (arrive {N} q h d o e) = let (long, ends) = marking-long q in (long, length-set (N .ends) _ 1 ∙ ends)
 
-  -- They stay tables of bits.
-  pub marking-bits : {M N : Marks} → Marking F T w r M N → Bits (M .asked) → Bits (M .ends) → Bits (N .asked) × Bits (N .ends)
-  marking-bits stay b e = (b, e)
-  marking-bits (mark {N} q h a z) b e = let (asked, ends) = marking-bits q b e in (bits-mark (N .asked) _ asked, ends)
-  marking-bits (arrive {N} q h d o z) b e = let (asked, ends) = marking-bits q b e in (asked, bits-mark (N .ends) _ ends)
+  -- The ends stay a table of bits.
+  pub marking-bits : {M N : Marks} → Marking F T w r M N → Bits (M .ends) → Bits (N .ends)
+  marking-bits stay e = e
+  marking-bits (mark q h a z) e = marking-bits q e
+  marking-bits (arrive {N} q h d o z) e = bits-mark (N .ends) _ (marking-bits q e)
 
   -- What is marked stays marked.
   pub marking-keeps : {M N : Marks} → Marking F T w r M N → (q t : ℕ) → Marked M q t → Marked N q t

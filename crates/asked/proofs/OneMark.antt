@@ -1,6 +1,6 @@
 -- One mark: what `mark` and `arrive` leave, by the entry that they read, and what that is to a sweep.
 -- What is asked for is marked now, or was; a table of bits stays one.
-use Prim.Native.Nat.{ℕ, _<_, _≤_}
+use Prim.Native.Nat.{ℕ, _%_, _<_, _≤_}
 use mathlib.Core.Path.{_≡_, refl, sym, _∙_}
 use mathlib.Core.Bool.{Bool, true, false, true≢false, false≢true}
 use mathlib.Core.Logic.{_⊎_, inl, inr, ⊎-elim, _≢_}
@@ -12,22 +12,27 @@ use Rattle.meaning.specs.Limits.{terms, records}
 use Rattle.fewest.specs.Frame.{Frame}
 use Rattle.fewest.specs.Next.{Home}
 use Rattle.fewest.specs.Offer.{place, view, Work}
+use Rattle.fewest.specs.Lows.{lows}
 use Rattle.fewest.specs.Sweep.{Swept}
+use Rattle.fewest.proofs.Lows.{getD-lows}
 use Rattle.fewest.proofs.Places.{place-below}
 use Rattle.fewest.proofs.Sweeps.{swept-none, swept-weaken}
 use Rattle.asked.specs.Mark.{marks, Marked, blanks, Done, Asking, Marking}
 use Rattle.asked.specs.Seek.{Whole, Bits, OneMarked, MarkedIf, OneArrived}
 use Rattle.asked.proofs.Marking.{bits-mark, marking-chain, swept-mark, swept-arrive}
+use Rattle.asked.proofs.LowBits.{lows-set}
 
--- the entry that was read at its place was marked, or it is marked now
+-- The byte that was read at its place was marked, or it is marked now: a mark is the lowest bit.
 module _ (b : List ℕ) (r t : ℕ) {i : ℕ} (here : i ≡ place r t) (was : Bool) where
-  pub marked-old : getD b i 0 ≡ 1 → OneMarked r t b b was was
+  at-place : view (lows b) r t ≡ getD b i 0 % 2
   unfolding view
-  marked-old e = record { fresh = λ z. absurd (omega (arith, rw here at e)); old = λ _. (refl, refl) }
+  at-place = rw (← here) (getD-lows b i)
 
-  pub marked-fresh : getD b i 0 ≢ 1 → OneMarked r t b (set b i 1) was true
-  unfolding view
-  marked-fresh e = record { fresh = λ _. (rw here, refl); old = λ z. absurd (e (rw here z)) }
+  pub marked-old : getD b i 0 % 2 ≡ 1 → OneMarked r t (lows b) (lows b) was was
+  marked-old e = record { fresh = λ z. absurd (omega (arith, at-place)); old = λ _. (refl, refl) }
+
+  pub marked-fresh : (v : ℕ) → v % 2 ≡ 1 → getD b i 0 % 2 ≢ 1 → OneMarked r t (lows b) (lows (set b i v)) was true
+  marked-fresh v odd e = record { fresh = λ _. (rw (lows-set b i v, odd, here), refl); old = λ z. absurd (e (sym at-place ∙ z)) }
 
 -- a mark that is made where a test says so
 module _ {r t : ℕ} {b : List ℕ} {was p : Bool} where

@@ -1,3 +1,4 @@
 -- What the byte table's functions promise.
 pub mod Mark
 pub mod Seek
+pub mod Chase

@@ -4,12 +4,11 @@ use Prim.Native.Nat.{ℕ, _*_, _-_, _<_, _≤_}
 use mathlib.Core.Path.{_≡_}
 use mathlib.Core.Logic.{_≢_}
 use mathlib.Core.Bool.{Bool, true, false}
-use mathlib.Core.List.{List, List·Memᴰ}
+use mathlib.Core.List.{List}
 use lib.ListN.{length, getD, set}
 use Rattle.meaning.specs.Limits.{terms, records}
 use Rattle.meaning.specs.Site as meant
 use Rattle.meaning.specs.Move.{Axis, self, Move, any, only}
-use Rattle.meaning.specs.Expression.{Rec, starring}
 use Rattle.meaning.specs.Fewest.{Goal}
 use Rattle.records.specs.declared.Label.{Label}
 use Rattle.records.specs.declared.Label.the-variants.{Any, Term, Test}
@@ -21,8 +20,7 @@ use Rattle.fewest.specs.Frame.{Frame, frame}
 use Rattle.fewest.specs.Next.{Next, Home}
 use Rattle.fewest.specs.Offer.{place, view, Work, stepping, copying, resting, worksOf}
 use Rattle.fewest.specs.Sweep.{Swept}
-use Rattle.fewest.specs.Under.{SeenUnder}
-use Rattle.fewest.specs.Work.{workOf, allowing, MayRest, WorksSwept}
+use Rattle.fewest.specs.Work.{workOf, allowing, MayRest, New, WorksSwept}
 use Rattle.asked.specs.Mark.{Marks, marks, blanks, Marked, Done, Marking, Calm, Marks-on, Marked-out, Marked-from}
 
 -- the byte table has its length
@@ -110,11 +108,18 @@ pub data Stay : Label → Work → Type 0 where
   as-empty : Stay Any resting
   as-step : {l : Label} → Stay l (workOf self l)
 
--- what is asked for by staying at the ends of triple number k is marked
+-- staying at t, which stands in triple number k, was looked at, or t stands in a triple before it
+abbrev pub RestedNew : List ℕ → ℕ → List ℕ → List ℕ → List ℕ → Label → (r t : ℕ) → Marks → Marks → Bool → Bool → Type 0
+RestedNew b k up role T l r t M M′ was more =
+    (n : ℕ) (w : Work) (g : Goal) → Accepted b n → k < n → Stay l w → meant.Voc (siteOf b n) t →
+    Swept blanks (Marking (frame (siteOf b n) up role g) T w r) (λ X. New (siteOf b n) (CalmBy (frame (siteOf b n) up role g) T l r t t t X) k t) M M′ was more
+
+-- what is asked for by staying at the ends of triple number k is marked, where they are new
 abbrev pub AtEnds : Frame → List ℕ → Label → ℕ → ℕ → Marks → Type 0
 AtEnds F T l r k X =
     let x = meant.triple (F .site) k in
-    CalmBy F T l r (x .subject) (x .subject) (x .subject) X × CalmBy F T l r (x .object) (x .object) (x .object) X
+    New (F .site) (CalmBy F T l r (x .subject) (x .subject) (x .subject) X) k (x .subject) ×
+    New (F .site) (CalmBy F T l r (x .object) (x .object) (x .object) X) k (x .object)
 
 -- staying at both was looked at
 abbrev pub RestedBy : List ℕ → ℕ → List ℕ → List ℕ → List ℕ → Label → ℕ → Marks → Marks → Bool → Bool → Type 0
@@ -142,21 +147,6 @@ abbrev pub RecordSought : List ℕ → ℕ → Record → ℕ → List ℕ → L
 RecordSought b n x f up role T r M M′ was more =
     (g : Goal) → WorksSwept blanks (λ w. Marking (frame (siteOf b n) up role g) T w r) (λ w. Calm (frame (siteOf b n) up role g) T w r)
     (worksOf (recOf x) r f) M M′ was more
-
--- nothing that the works of record r ask for is unmarked
-abbrev pub RecordCalm : Frame → List ℕ → List Rec → List ℕ → ℕ → Marks → Type 0
-RecordCalm F T rs first r X = (w : Work) → List·Memᴰ w (worksOf (getD rs r starring) r (getD first r 0)) → Calm F T w r X
-
--- record r of the rule was looked at, and each record under it
-abbrev pub SoughtAt : List ℕ → ℕ → List ℕ → List ℕ → List ℕ → List ℕ → List ℕ → ℕ → Marks → Marks → Bool → Bool → Type 0
-SoughtAt b n rule up role first T r M M′ was more =
-    (g : Goal) → let F = frame (siteOf b n) up role g in
-    Swept blanks (Marks-on F T (recordsOf rule) first) (RecordCalm F T (recordsOf rule) first r) M M′ was more
-
-abbrev pub SoughtUnder : List ℕ → ℕ → List ℕ → List ℕ → List ℕ → List ℕ → List ℕ → ℕ → Marks → Marks → Bool → Bool → Type 0
-SoughtUnder b n rule up role first T r M M′ was more =
-    (g : Goal) → let F = frame (siteOf b n) up role g in
-    SeenUnder blanks (Marks-on F T (recordsOf rule) first) (RecordCalm F T (recordsOf rule) first) (recordsOf rule) first r M M′ was more
 
 abbrev pub SoughtOver : List ℕ → ℕ → List ℕ → List ℕ → List ℕ → List ℕ → List ℕ → Marks → Marks → Bool → Type 0
 SoughtOver b n rule up role first T M M′ more =

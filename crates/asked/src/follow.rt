@@ -10,13 +10,14 @@ ghost use Prim.Native.Nat.{_<_};
 ghost use lib.Dec.{eqb};
 ghost use Rattle.meaning.specs.Limits.{terms, records};
 ghost use Rattle.fewest.specs.Frame.{as-round, Climbs};
+ghost use Rattle.fewest.specs.Lows.{lows};
 ghost use Rattle.asked.specs.Mark.{marks};
 ghost use Rattle.asked.specs.Seek.{Whole, Bits, MarkedIf, Followed-up};
 
 // A star's operand is asked again where it is done.
 fn again(asked: &mut [u8], stands: u8, r: usize, u: usize, was: bool) -> bool
-    requires { ⌜ Whole (now asked) × Bits (now asked) × (r < records) × (u < terms) ⌝ }
-    ensures { λ more. ⌜ MarkedIf (eqb stands as-round) r u (now (asked .entry)) (now (asked .exit)) was more ⌝ }
+    requires { ⌜ Whole (lows (now asked)) × (r < records) × (u < terms) ⌝ }
+    ensures { λ more. ⌜ MarkedIf (eqb stands as-round) r u (lows (now (asked .entry))) (lows (now (asked .exit))) was more ⌝ }
 {
     if stands == AS_ROUND {
         return mark(asked, r, u, was);
@@ -34,8 +35,8 @@ pub fn follow<'a>(
     u: usize,
     was: bool,
 ) -> bool
-    requires { ⌜ Climbs records (now up) (now role) × Whole (now asked) × Bits (now asked) × Bits (now ends) × (r < records) × (u < terms) ⌝ }
-    ensures { λ more. ⌜ Followed-up (now (up .entry)) (now (role .entry)) r u (marks (now (asked .entry)) (now (ends .entry))) (marks (now (asked .exit)) (now (ends .exit))) was more ⌝ }
+    requires { ⌜ Climbs records (now up) (now role) × Whole (lows (now asked)) × Bits (now ends) × (r < records) × (u < terms) ⌝ }
+    ensures { λ more. ⌜ Followed-up (now (up .entry)) (now (role .entry)) r u (marks (lows (now (asked .entry))) (now (ends .entry))) (marks (lows (now (asked .exit))) (now (ends .exit))) was more ⌝ }
 {
     let mut more = was;
     let mut at = r;

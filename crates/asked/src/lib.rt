@@ -3,5 +3,6 @@
 pub mod mark; // mark.rt: one mark
 pub mod follow; // follow.rt: what follows where an expression is done
 pub mod seek; // seek.rt: one look at what a mark asks for
+pub mod chase; // chase.rt: the questions by a queue of terms
 pub mod spread; // spread.rt: sweeps over the table, until one adds no mark
 pub mod count; // count.rt: how many are marked

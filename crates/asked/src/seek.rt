@@ -1,4 +1,4 @@
-// One look at what a marked question asks for: its test at the middle, and what follows where it is done.
+// One look at what a marked question asks for: an operand, its test at the middle, and what follows where it is done.
 use crate::follow::follow;
 use crate::mark::is_marked;
 use crate::mark::mark;
@@ -10,17 +10,29 @@ use records::Step;
 use records::site::triple_at;
 ghost use Prim.Native.Nat.{_-_, _<_};
 ghost use Rattle.meaning.specs.Limits.{terms, records};
+ghost use Rattle.fewest.specs.Lows.{lows};
 ghost use Rattle.fewest.specs.Pairs.{pairs};
 ghost use Rattle.fewest.specs.Frame.{Climbs};
 ghost use Rattle.fewest.specs.Table.{Full};
 ghost use Rattle.fewest.specs.Work.{Tests, Has};
 ghost use Rattle.asked.specs.Mark.{marks};
-ghost use Rattle.asked.specs.Seek.{Whole, Bits, MarkedIf, isTest, Pursued, Sought, Rested};
+ghost use Rattle.asked.specs.Seek.{Whole, Bits, MarkedIf, Entered, isTest, Pursued, Sought, Rested};
+
+// Where record r is asked at t, its operand, record a, is asked there too.
+pub fn enter(asked: &mut [u8], r: usize, a: usize, t: usize, was: bool) -> bool
+    requires { ⌜ Whole (lows (now asked)) × (r < records) × (a < records) × (t < terms) ⌝ }
+    ensures { λ more. ⌜ Entered a r t (lows (now (asked .entry))) (lows (now (asked .exit))) was more ⌝ }
+{
+    if is_marked(asked, r, t) {
+        return mark(asked, a, t, was);
+    }
+    was
+}
 
 // A test is asked at the middle; without one nothing is.
 fn ask_test(asked: &mut [u8], label: Label, r: usize, middle: usize, was: bool) -> bool
-    requires { ⌜ Whole (now asked) × Bits (now asked) × (r < records) × (middle < terms) × Tests label r ⌝ }
-    ensures { λ more. ⌜ MarkedIf (isTest label) (r - 1) middle (now (asked .entry)) (now (asked .exit)) was more ⌝ }
+    requires { ⌜ Whole (lows (now asked)) × (r < records) × (middle < terms) × Tests label r ⌝ }
+    ensures { λ more. ⌜ MarkedIf (isTest label) (r - 1) middle (lows (now (asked .entry))) (lows (now (asked .exit))) was more ⌝ }
 {
     match label {
         Label::Any => was,
@@ -44,8 +56,8 @@ fn pursue<'a>(
     u: usize,
     was: bool,
 ) -> bool
-    requires { ⌜ Full (now numbers) × Climbs records (now up) (now role) × Whole (now asked) × Bits (now asked) × Bits (now ends) × (r < records) × Tests label r × (t < terms) × (middle < terms) × (u < terms) ⌝ }
-    ensures { λ more. ⌜ Pursued (now (up .entry)) (now (role .entry)) (pairs (now (numbers .entry))) label r t middle u (marks (now (asked .entry)) (now (ends .entry))) (marks (now (asked .exit)) (now (ends .exit))) was more ⌝ }
+    requires { ⌜ Full (now numbers) × Climbs records (now up) (now role) × Whole (lows (now asked)) × Bits (now ends) × (r < records) × Tests label r × (t < terms) × (middle < terms) × (u < terms) ⌝ }
+    ensures { λ more. ⌜ Pursued (now (up .entry)) (now (role .entry)) (pairs (now (numbers .entry))) label r t middle u (marks (lows (now (asked .entry))) (now (ends .entry))) (marks (lows (now (asked .exit))) (now (ends .exit))) was more ⌝ }
 {
     if !is_marked(asked, r, t) {
         return was;
@@ -70,8 +82,8 @@ pub fn seek<'a>(
     r: usize,
     was: bool,
 ) -> bool
-    requires { ⌜ Has (now site) k × Full (now numbers) × Climbs records (now up) (now role) × Whole (now asked) × Bits (now asked) × Bits (now ends) × (r < records) × Tests (step .label) r ⌝ }
-    ensures { λ more. ⌜ Sought (now (site .entry)) k step (now (up .entry)) (now (role .entry)) (pairs (now (numbers .entry))) r (marks (now (asked .entry)) (now (ends .entry))) (marks (now (asked .exit)) (now (ends .exit))) was more ⌝ }
+    requires { ⌜ Has (now site) k × Full (now numbers) × Climbs records (now up) (now role) × Whole (lows (now asked)) × Bits (now ends) × (r < records) × Tests (step .label) r ⌝ }
+    ensures { λ more. ⌜ Sought (now (site .entry)) k step (now (up .entry)) (now (role .entry)) (pairs (now (numbers .entry))) r (marks (lows (now (asked .entry))) (now (ends .entry))) (marks (lows (now (asked .exit))) (now (ends .exit))) was more ⌝ }
 {
     let axis = step.axis;
     let label = step.label;
@@ -103,8 +115,8 @@ pub fn rest<'a>(
     t: usize,
     was: bool,
 ) -> bool
-    requires { ⌜ Full (now numbers) × Climbs records (now up) (now role) × Whole (now asked) × Bits (now asked) × Bits (now ends) × (r < records) × (t < terms) × Tests label r ⌝ }
-    ensures { λ more. ⌜ Rested (now (up .entry)) (now (role .entry)) (pairs (now (numbers .entry))) label r t (marks (now (asked .entry)) (now (ends .entry))) (marks (now (asked .exit)) (now (ends .exit))) was more ⌝ }
+    requires { ⌜ Full (now numbers) × Climbs records (now up) (now role) × Whole (lows (now asked)) × Bits (now ends) × (r < records) × (t < terms) × Tests label r ⌝ }
+    ensures { λ more. ⌜ Rested (now (up .entry)) (now (role .entry)) (pairs (now (numbers .entry))) label r t (marks (lows (now (asked .entry))) (now (ends .entry))) (marks (lows (now (asked .exit))) (now (ends .exit))) was more ⌝ }
 {
     pursue(up, role, numbers, asked, ends, label, r, t, t, t, was)
 }

@@ -1,14 +1,17 @@
-// Sweeps over the byte table: row by row, down the tree of the rule's records, until one adds no mark.
-use crate::mark::is_marked;
+// Sweeps over the byte table: row by row, record by record, until one adds no mark.
+use crate::chase::chase;
 use crate::mark::mark;
+use crate::seek::enter;
 use crate::seek::rest;
 use crate::seek::seek;
+use fewest::sweep::stands_earlier;
+use fewest::threads::first_object;
+use fewest::threads::first_subject;
 use records::Label;
 use records::RECORDS;
 use records::Record;
 use records::Step;
 use records::TERMS;
-use records::rule::operands_of;
 use records::rule::record_at;
 use records::site::triple_at;
 ghost use mathlib.Core.Path.{_≡_};
@@ -18,12 +21,13 @@ ghost use lib.ListN.{length, replicate};
 ghost use Rattle.meaning.specs.Limits.{terms, records};
 ghost use Rattle.records.specs.Sites.{Accepted};
 ghost use Rattle.records.specs.Rules.{lastAxis};
+ghost use Rattle.fewest.specs.Lows.{lows};
 ghost use Rattle.fewest.specs.Pairs.{pairs};
 ghost use Rattle.fewest.specs.Frame.{Climbs};
 ghost use Rattle.fewest.specs.Table.{Full};
-ghost use Rattle.fewest.specs.Work.{Tests, Has, Nameless, Sits, Ready, ReadyAt};
+ghost use Rattle.fewest.specs.Work.{Tests, Has, Nameless, Sits, Ready};
 ghost use Rattle.asked.specs.Mark.{marks};
-ghost use Rattle.asked.specs.Seek.{Whole, Bits, Entered, RowSought, RestedBy, RestsSought, StepSought, RecordSought, SoughtAt, SoughtUnder, SoughtOver, SettledMarks, MarkedOver};
+ghost use Rattle.asked.specs.Seek.{Whole, Bits, RowSought, RestedNew, RestedBy, RestsSought, StepSought, RecordSought, SoughtOver, SettledMarks, MarkedOver};
 
 // A row of the byte table is filled with 0.
 fn clear_row(row: &mut [u8])
@@ -50,21 +54,33 @@ pub fn clear(asked: &mut [u8])
     }
 }
 
-// Where record r is asked at t, its operand, record a, is asked there too.
-fn enter(asked: &mut [u8], r: usize, a: usize, t: usize, was: bool) -> bool
-    requires { ⌜ Whole (now asked) × Bits (now asked) × (r < records) × (a < records) × (t < terms) ⌝ }
-    ensures { λ more. ⌜ Entered a r t (now (asked .entry)) (now (asked .exit)) was more ⌝ }
+// No question is marked or waits; the scratch above is kept.
+fn free(asked: &mut [u8])
+    requires { ⌜ Whole (now asked) ⌝ }
+    ensures { λ _. ⌜ lows (now (asked .exit)) ≡ replicate (records * terms) 0 ⌝ }
 {
-    if is_marked(asked, r, t) {
-        return mark(asked, a, t, was);
+    let mut i = 0;
+    while i < asked.len() {
+        asked[i] = asked[i] / 4 * 4;
+        i += 1;
     }
-    was
+}
+
+// Only the marks are kept: the byte table holds 0 and 1.
+fn narrow(asked: &mut [u8])
+    ensures { λ _. ⌜ now (asked .exit) ≡ lows (now (asked .entry)) ⌝ }
+{
+    let mut i = 0;
+    while i < asked.len() {
+        asked[i] = asked[i] % 2;
+        i += 1;
+    }
 }
 
 // Wherever record r is asked, its operand, record a, is asked too.
 fn spread_row(asked: &mut [u8], r: usize, a: usize, was: bool) -> bool
-    requires { ⌜ Whole (now asked) × Bits (now asked) × (r < records) × (a < records) ⌝ }
-    ensures { λ more. ⌜ RowSought a r (now (asked .entry)) (now (asked .exit)) was more ⌝ }
+    requires { ⌜ Whole (lows (now asked)) × (r < records) × (a < records) ⌝ }
+    ensures { λ more. ⌜ RowSought a r (lows (now (asked .entry))) (lows (now (asked .exit))) was more ⌝ }
 {
     let mut more = was;
     let mut t = 0;
@@ -75,7 +91,31 @@ fn spread_row(asked: &mut [u8], r: usize, a: usize, was: bool) -> bool
     more
 }
 
-// Staying at the subject and at the object of triple k, for record r.
+// Staying at t, which stands in triple k, for record r; where it stands in triple j before it, that was looked at already.
+fn rest_new<'a>(
+    site: &[u8],
+    k: usize,
+    j: usize,
+    up: &'a [u8; RECORDS],
+    role: &'a [u8; RECORDS],
+    numbers: &[u8],
+    asked: &mut [u8],
+    ends: &mut [u8],
+    label: Label,
+    r: usize,
+    t: usize,
+    was: bool,
+) -> bool
+    requires { ⌜ Has (now site) k × Full (now numbers) × Climbs records (now up) (now role) × Whole (lows (now asked)) × Bits (now ends) × (r < records) × (t < terms) × Tests label r ⌝ }
+    ensures { λ more. ⌜ RestedNew (now (site .entry)) k (now (up .entry)) (now (role .entry)) (pairs (now (numbers .entry))) label r t (marks (lows (now (asked .entry))) (now (ends .entry))) (marks (lows (now (asked .exit))) (now (ends .exit))) was more ⌝ }
+{
+    if stands_earlier(site, k, j, t) {
+        return was;
+    }
+    rest(up, role, numbers, asked, ends, label, r, t, was)
+}
+
+// Staying at the subject and at the object of triple k, for record r. The first triples with these terms are hints.
 fn rest_by<'a>(
     site: &[u8],
     k: usize,
@@ -88,12 +128,40 @@ fn rest_by<'a>(
     r: usize,
     was: bool,
 ) -> bool
-    requires { ⌜ Has (now site) k × Full (now numbers) × Climbs records (now up) (now role) × Whole (now asked) × Bits (now asked) × Bits (now ends) × (r < records) × Tests label r ⌝ }
-    ensures { λ more. ⌜ RestedBy (now (site .entry)) k (now (up .entry)) (now (role .entry)) (pairs (now (numbers .entry))) label r (marks (now (asked .entry)) (now (ends .entry))) (marks (now (asked .exit)) (now (ends .exit))) was more ⌝ }
+    requires { ⌜ Has (now site) k × Full (now numbers) × Climbs records (now up) (now role) × Whole (lows (now asked)) × Bits (now ends) × (r < records) × Tests label r ⌝ }
+    ensures { λ more. ⌜ RestedBy (now (site .entry)) k (now (up .entry)) (now (role .entry)) (pairs (now (numbers .entry))) label r (marks (lows (now (asked .entry))) (now (ends .entry))) (marks (lows (now (asked .exit))) (now (ends .exit))) was more ⌝ }
 {
     let x = triple_at(site, k);
-    let first = rest(up, role, numbers, asked, ends, label, r, x.subject, was);
-    rest(up, role, numbers, asked, ends, label, r, x.object, first)
+    let j = first_subject(asked, x.subject);
+    let i = first_object(asked, x.object);
+    let first = rest_new(
+        site,
+        k,
+        j,
+        up,
+        role,
+        numbers,
+        asked,
+        ends,
+        label,
+        r,
+        x.subject,
+        was,
+    );
+    rest_new(
+        site,
+        k,
+        i,
+        up,
+        role,
+        numbers,
+        asked,
+        ends,
+        label,
+        r,
+        x.object,
+        first,
+    )
 }
 
 // Staying at each vocabulary term, for record r.
@@ -109,8 +177,8 @@ fn spread_rests<'a>(
     r: usize,
     was: bool,
 ) -> bool
-    requires { ⌜ Accepted (now site) triples × Full (now numbers) × Climbs records (now up) (now role) × Whole (now asked) × Bits (now asked) × Bits (now ends) × (r < records) × Tests label r × Nameless label ⌝ }
-    ensures { λ more. ⌜ RestsSought (now (site .entry)) triples (now (up .entry)) (now (role .entry)) (pairs (now (numbers .entry))) label r (marks (now (asked .entry)) (now (ends .entry))) (marks (now (asked .exit)) (now (ends .exit))) was more ⌝ }
+    requires { ⌜ Accepted (now site) triples × Full (now numbers) × Climbs records (now up) (now role) × Whole (lows (now asked)) × Bits (now ends) × (r < records) × Tests label r × Nameless label ⌝ }
+    ensures { λ more. ⌜ RestsSought (now (site .entry)) triples (now (up .entry)) (now (role .entry)) (pairs (now (numbers .entry))) label r (marks (lows (now (asked .entry))) (now (ends .entry))) (marks (lows (now (asked .exit))) (now (ends .exit))) was more ⌝ }
 {
     let mut more = was;
     let mut k = 0;
@@ -134,8 +202,8 @@ fn spread_axis<'a>(
     r: usize,
     was: bool,
 ) -> bool
-    requires { ⌜ Accepted (now site) triples × Full (now numbers) × Climbs records (now up) (now role) × Whole (now asked) × Bits (now asked) × Bits (now ends) × (r < records) × Tests (step .label) r × (step .axis ≢ 0) × (step .axis ≤ lastAxis) ⌝ }
-    ensures { λ more. ⌜ StepSought (now (site .entry)) triples step (now (up .entry)) (now (role .entry)) (pairs (now (numbers .entry))) r (marks (now (asked .entry)) (now (ends .entry))) (marks (now (asked .exit)) (now (ends .exit))) was more ⌝ }
+    requires { ⌜ Accepted (now site) triples × Full (now numbers) × Climbs records (now up) (now role) × Whole (lows (now asked)) × Bits (now ends) × (r < records) × Tests (step .label) r × (step .axis ≢ 0) × (step .axis ≤ lastAxis) ⌝ }
+    ensures { λ more. ⌜ StepSought (now (site .entry)) triples step (now (up .entry)) (now (role .entry)) (pairs (now (numbers .entry))) r (marks (lows (now (asked .entry))) (now (ends .entry))) (marks (lows (now (asked .exit))) (now (ends .exit))) was more ⌝ }
 {
     let mut more = was;
     let mut k = 0;
@@ -159,8 +227,8 @@ fn spread_step<'a>(
     r: usize,
     was: bool,
 ) -> bool
-    requires { ⌜ Accepted (now site) triples × Full (now numbers) × Climbs records (now up) (now role) × Whole (now asked) × Bits (now asked) × Bits (now ends) × (r < records) × Tests (step .label) r × (step .axis ≤ lastAxis) ⌝ }
-    ensures { λ more. ⌜ StepSought (now (site .entry)) triples step (now (up .entry)) (now (role .entry)) (pairs (now (numbers .entry))) r (marks (now (asked .entry)) (now (ends .entry))) (marks (now (asked .exit)) (now (ends .exit))) was more ⌝ }
+    requires { ⌜ Accepted (now site) triples × Full (now numbers) × Climbs records (now up) (now role) × Whole (lows (now asked)) × Bits (now ends) × (r < records) × Tests (step .label) r × (step .axis ≤ lastAxis) ⌝ }
+    ensures { λ more. ⌜ StepSought (now (site .entry)) triples step (now (up .entry)) (now (role .entry)) (pairs (now (numbers .entry))) r (marks (lows (now (asked .entry))) (now (ends .entry))) (marks (lows (now (asked .exit))) (now (ends .exit))) was more ⌝ }
 {
     if step.axis != 0 {
         return spread_axis(site, triples, step, up, role, numbers, asked, ends, r, was);
@@ -186,8 +254,8 @@ fn spread_record<'a>(
     r: usize,
     was: bool,
 ) -> bool
-    requires { ⌜ Accepted (now site) triples × Full (now numbers) × Climbs records (now up) (now role) × Whole (now asked) × Bits (now asked) × Bits (now ends) × (r < records) × Sits rec r × (first < records) ⌝ }
-    ensures { λ more. ⌜ RecordSought (now (site .entry)) triples rec first (now (up .entry)) (now (role .entry)) (pairs (now (numbers .entry))) r (marks (now (asked .entry)) (now (ends .entry))) (marks (now (asked .exit)) (now (ends .exit))) was more ⌝ }
+    requires { ⌜ Accepted (now site) triples × Full (now numbers) × Climbs records (now up) (now role) × Whole (lows (now asked)) × Bits (now ends) × (r < records) × Sits rec r × (first < records) ⌝ }
+    ensures { λ more. ⌜ RecordSought (now (site .entry)) triples rec first (now (up .entry)) (now (role .entry)) (pairs (now (numbers .entry))) r (marks (lows (now (asked .entry))) (now (ends .entry))) (marks (lows (now (asked .exit))) (now (ends .exit))) was more ⌝ }
 {
     match rec {
         Record::Step(step) => spread_step(
@@ -225,126 +293,7 @@ fn spread_record<'a>(
     }
 }
 
-// What record r of the rule asks for.
-fn spread_at<'a>(
-    site: &[u8],
-    triples: usize,
-    rule: &[u8],
-    starts: &[usize; RECORDS],
-    up: &'a [u8; RECORDS],
-    role: &'a [u8; RECORDS],
-    first: &'a [u8; RECORDS],
-    numbers: &[u8],
-    asked: &mut [u8],
-    ends: &mut [u8],
-    r: usize,
-    was: bool,
-) -> bool
-    requires { ⌜ ReadyAt (now site) triples (now rule) (now starts) (now up) (now role) (now first) r × Full (now numbers) × Whole (now asked) × Bits (now asked) × Bits (now ends) ⌝ }
-    ensures { λ more. ⌜ SoughtAt (now (site .entry)) triples (now (rule .entry)) (now (up .entry)) (now (role .entry)) (now (first .entry)) (pairs (now (numbers .entry))) r (marks (now (asked .entry)) (now (ends .entry))) (marks (now (asked .exit)) (now (ends .exit))) was more ⌝ }
-{
-    let rec = record_at(rule, starts[r]);
-    let operand = first[r] as usize;
-    spread_record(
-        site,
-        triples,
-        rec,
-        operand,
-        up,
-        role,
-        numbers,
-        asked,
-        ends,
-        r,
-        was,
-    )
-}
-
-// What all that stands under record r asks for: the record itself, what stands under its first operand, then under its
-// second; a step before its test. A mark is handed on to the operands, and from a first operand to the second.
-fn spread_under<'a>(
-    site: &[u8],
-    triples: usize,
-    rule: &[u8],
-    starts: &[usize; RECORDS],
-    up: &'a [u8; RECORDS],
-    role: &'a [u8; RECORDS],
-    first: &'a [u8; RECORDS],
-    numbers: &[u8],
-    asked: &mut [u8],
-    ends: &mut [u8],
-    r: usize,
-    was: bool,
-) -> bool
-    requires { ⌜ ReadyAt (now site) triples (now rule) (now starts) (now up) (now role) (now first) r × Full (now numbers) × Whole (now asked) × Bits (now asked) × Bits (now ends) ⌝ }
-    ensures { λ more. ⌜ SoughtUnder (now (site .entry)) triples (now (rule .entry)) (now (up .entry)) (now (role .entry)) (now (first .entry)) (pairs (now (numbers .entry))) r (marks (now (asked .entry)) (now (ends .entry))) (marks (now (asked .exit)) (now (ends .exit))) was more ⌝ }
-{
-    let own = spread_at(
-        site,
-        triples,
-        rule,
-        starts,
-        up,
-        role,
-        first,
-        numbers,
-        asked,
-        ends,
-        r,
-        was,
-    );
-    let taken = operands_of(record_at(rule, starts[r]));
-    if taken == 0 {
-        return own;
-    }
-    if taken == 1 {
-        return spread_under(
-            site,
-            triples,
-            rule,
-            starts,
-            up,
-            role,
-            first,
-            numbers,
-            asked,
-            ends,
-            r - 1,
-            own,
-        );
-    }
-    let operand = first[r] as usize;
-    let one = spread_under(
-        site,
-        triples,
-        rule,
-        starts,
-        up,
-        role,
-        first,
-        numbers,
-        asked,
-        ends,
-        operand,
-        own,
-    );
-    spread_under(
-        site,
-        triples,
-        rule,
-        starts,
-        up,
-        role,
-        first,
-        numbers,
-        asked,
-        ends,
-        r - 1,
-        one,
-    )
-}
-
-// Every record once, from the whole rule down. False where no mark was added.
+// Every record once. False where no mark was added.
 fn sweep<'a>(
     site: &[u8],
     triples: usize,
@@ -358,23 +307,30 @@ fn sweep<'a>(
     asked: &mut [u8],
     ends: &mut [u8],
 ) -> bool
-    requires { ⌜ Ready (now site) triples (now rule) (now starts) count (now up) (now role) (now first) × Full (now numbers) × Whole (now asked) × Bits (now asked) × Bits (now ends) ⌝ }
-    ensures { λ more. ⌜ SoughtOver (now (site .entry)) triples (now (rule .entry)) (now (up .entry)) (now (role .entry)) (now (first .entry)) (pairs (now (numbers .entry))) (marks (now (asked .entry)) (now (ends .entry))) (marks (now (asked .exit)) (now (ends .exit))) more ⌝ }
+    requires { ⌜ Ready (now site) triples (now rule) (now starts) count (now up) (now role) (now first) × Full (now numbers) × Whole (lows (now asked)) × Bits (now ends) ⌝ }
+    ensures { λ more. ⌜ SoughtOver (now (site .entry)) triples (now (rule .entry)) (now (up .entry)) (now (role .entry)) (now (first .entry)) (pairs (now (numbers .entry))) (marks (lows (now (asked .entry))) (now (ends .entry))) (marks (lows (now (asked .exit))) (now (ends .exit))) more ⌝ }
 {
-    spread_under(
-        site,
-        triples,
-        rule,
-        starts,
-        up,
-        role,
-        first,
-        numbers,
-        asked,
-        ends,
-        count - 1,
-        false,
-    )
+    let mut more = false;
+    let mut r = 0;
+    while r < count {
+        let rec = record_at(rule, starts[r]);
+        let operand = first[r] as usize;
+        more = spread_record(
+            site,
+            triples,
+            rec,
+            operand,
+            up,
+            role,
+            numbers,
+            asked,
+            ends,
+            r,
+            more,
+        );
+        r += 1;
+    }
+    more
 }
 
 // Sweeps until one adds no mark.
@@ -391,8 +347,8 @@ fn settle<'a>(
     asked: &mut [u8],
     ends: &mut [u8],
 )
-    requires { ⌜ Ready (now site) triples (now rule) (now starts) count (now up) (now role) (now first) × Full (now numbers) × Whole (now asked) × Bits (now asked) × Bits (now ends) ⌝ }
-    ensures { λ _. ⌜ SettledMarks (now (site .entry)) triples (now (rule .entry)) (now (up .entry)) (now (role .entry)) (now (first .entry)) (pairs (now (numbers .entry))) (marks (now (asked .entry)) (now (ends .entry))) (marks (now (asked .exit)) (now (ends .exit))) ⌝ }
+    requires { ⌜ Ready (now site) triples (now rule) (now starts) count (now up) (now role) (now first) × Full (now numbers) × Whole (lows (now asked)) × Bits (now ends) ⌝ }
+    ensures { λ _. ⌜ SettledMarks (now (site .entry)) triples (now (rule .entry)) (now (up .entry)) (now (role .entry)) (now (first .entry)) (pairs (now (numbers .entry))) (marks (lows (now (asked .entry))) (now (ends .entry))) (marks (lows (now (asked .exit))) (now (ends .exit))) ⌝ }
 {
     while sweep(
         site,
@@ -427,9 +383,23 @@ pub fn ask<'a>(
     requires { ⌜ Ready (now site) triples (now rule) (now starts) count (now up) (now role) (now first) × Full (now numbers) × Whole (now asked) × (0 < count) × (start < terms) ⌝ }
     ensures { λ _. ⌜ MarkedOver (now (site .entry)) triples (now (rule .entry)) (now (up .entry)) (now (role .entry)) (now (first .entry)) (pairs (now (numbers .entry))) start (length (now (ends .entry))) (marks (now (asked .exit)) (now (ends .exit))) ⌝ }
 {
-    clear(asked);
+    free(asked);
     clear_row(ends);
     mark(asked, count - 1, start, false);
+    chase(
+        site,
+        triples,
+        rule,
+        starts,
+        count,
+        up,
+        role,
+        first,
+        numbers,
+        start,
+        asked,
+        ends,
+    );
     settle(
         site,
         triples,
@@ -442,5 +412,6 @@ pub fn ask<'a>(
         numbers,
         asked,
         ends,
-    )
+    );
+    narrow(asked)
 }

@@ -18,9 +18,9 @@ use Rattle.records.specs.Rules.{axisNumbered, labelled, recOf}
 use Rattle.fewest.specs.Frame.{Frame}
 use Rattle.fewest.specs.Offer.{Work, copying, resting, worksOf, Lowers, Quiet, Settles, rest, work, Settled}
 use Rattle.fewest.specs.Sweep.{sum, Swept}
-use Rattle.fewest.specs.Under.{Rooted, SeenUnder}
-use Rattle.fewest.specs.Work.{workOf, Rows, idle, worked, WorksSwept, RecordQuiet}
+use Rattle.fewest.specs.Work.{workOf, Rows, idle, worked, WorksSwept}
 use Rattle.fewest.proofs.Sweeps.{Chain, swept-none, swept-then, swept-weaken, swept-lift}
+use Rattle.fewest.proofs.Loops.{Seen}
 
 module _ {A : Type 0} {R : Work → A → A → Type 0} where
   rows-then : {ws : List Work} {T U W : A} → Rows R ws T U → Rows R ws U W → Rows R ws T W
@@ -82,6 +82,10 @@ module _ {A : Type 0} {μ : A → ℕ} {R : Work → A → A → Type 0} (chain 
         Swept μ (R resting) (Q resting) W U before now → WorksSwept μ R Q (worksOf (recOf x) r f) T U was now
     by-star e p q = rw e (works-more p (works-more q works-none))
 
+-- nothing that the works of record r offer is lower
+abbrev pub RecordQuiet : Frame → List Rec → List ℕ → ℕ → List ℕ → Type 0
+RecordQuiet F rs first r X = (w : Work) → List·Memᴰ w (worksOf (getD rs r starring) r (getD first r 0)) → Quiet F w r X
+
 module _ {F : Frame} {rs : List Rec} {first : List ℕ} where
   -- a turn: record r was swept
   pub record-swept : {x : Rec} {r : ℕ} {T U : List ℕ} {was now : Bool} → r < length rs → x ≡ getD rs r starring →
@@ -89,8 +93,7 @@ module _ {F : Frame} {rs : List Rec} {first : List ℕ} where
       Swept sum (Settles F rs first) (RecordQuiet F rs first r) T U was now
   record-swept h e p = swept-lift (rows-within (Settles F rs first) (λ T. rest) (λ T U W w q i l. work q h i l)) (rw e at p)
 
-  -- Each record under the last seen, the table is settled.
-  pub all-swept : {count : ℕ} {T U : List ℕ} {was now : Bool} → count ≡ length rs → Rooted rs first →
-      SeenUnder sum (Settles F rs first) (RecordQuiet F rs first) rs first (count - 1) T U was now →
-      Swept sum (Settles F rs first) (Settled F rs first) T U was now
-  all-swept e tree p = swept-weaken (λ seen. record { quiet = λ r w h. seen r (rw e (tree .all r h)) w }) p
+  -- Each record seen, the table is settled.
+  pub all-swept : {k : ℕ} {T U : List ℕ} {was now : Bool} → length rs ≤ k →
+      Seen sum (Settles F rs first) (RecordQuiet F rs first) k T U was now → Swept sum (Settles F rs first) (Settled F rs first) T U was now
+  all-swept past p = swept-weaken (λ seen. record { quiet = λ r w h i. seen r (omega arith) w i }) p

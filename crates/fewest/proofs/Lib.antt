@@ -1,5 +1,6 @@
--- Laws that belong to no one function: numbers in bytes, places, the bound, the bridge to the meaning, and the loops' laws.
+-- Laws that belong to no one function: numbers in bytes, low bits, places, the bound, the bridge to the meaning, the loops' laws.
 pub mod Decoded
+pub mod Lows
 pub mod Places
 pub mod Entries
 pub mod Bound
@@ -18,6 +19,6 @@ pub mod ByTriples
 pub mod ByRecords
 pub mod Operands
 pub mod Linking
-pub mod Under
 pub mod Readiness
 pub mod Telling
+pub mod Hints

@@ -37,7 +37,7 @@ named (going x _) e = going x e
 named (coming x _) e = coming x e
 
 -- where the label lets the middle pass, a step offers one more than what may follow
-step-offer : {F : Frame} {T : List ℕ} {r : ℕ} (l : Label) {a : Axis} {k t m u v : ℕ} → Move (F .site) a any k t m u →
+pub step-offer : {F : Frame} {T : List ℕ} {r : ℕ} (l : Label) {a : Axis} {k t m u v : ℕ} → Move (F .site) a any k t m u →
     allowing T l r m ≡ true → Continues F T r u v → Offer F T r t (workOf a l) (v + 1)
 step-offer Any move ok c = by-step move c
 step-offer (Term n) {m = m} move ok c = by-step (named move (eqb-true m n ok)) c

@@ -1,6 +1,6 @@
 -- A record's row is lowered by staying: at each vocabulary term, for an empty round or a self without a name, or at a name.
 -- A vocabulary term stands at an end of some triple, so both ends of every triple seen, every one of them was seen.
-use Prim.Native.Nat.{ℕ, _*_, _<_, _≤_}
+use Prim.Native.Nat.{ℕ, zero, suc, _*_, _<_, _≤_}
 use mathlib.Core.Path.{_≡_, refl}
 use mathlib.Core.Logic.{_⊎_, inl, inr, ⊎-elim}
 use mathlib.Core.Bool.{Bool, true, false, cond}
@@ -21,10 +21,10 @@ use Rattle.records.specs.Sites.{Accepted, siteOf, tripleOf, tripleWidth, inCode
 use Rattle.records.proofs.Label.{the-type}
 use Rattle.records.proofs.Sites.{length-siteOf, triple-siteOf}
 use Rattle.fewest.specs.Frame.{Frame}
-use Rattle.fewest.specs.Offer.{Work, stepping, resting, Offer, by-step, by-test, by-rest, Lowers, Quiet}
+use Rattle.fewest.specs.Offer.{stepping, resting, Offer, by-step, by-test, by-rest, Lowers, Quiet}
 use Rattle.fewest.specs.Sweep.{sum}
-use Rattle.fewest.specs.Work.{workOf, staying as stayingBy, Looks, QuietAt, at-word, Rested, RestedBy, Nameless, WorkSwept, Has}
-use Rattle.fewest.proofs.Sweeps.{lowers-chain, swept-then, swept-weaken}
+use Rattle.fewest.specs.Work.{workOf, staying as stayingBy, Looks, QuietAt, at-word, Rested, Stands, New, earlier, looked, StandsEarlier, RestedNew, RestedBy, AtEnds, Nameless, WorkSwept, Has}
+use Rattle.fewest.proofs.Sweeps.{lowers-chain, swept-none, swept-then, swept-weaken}
 use Rattle.fewest.proofs.Loops.{Seen}
 
 -- A term at an end of triple number k is a vocabulary term.
@@ -50,25 +50,44 @@ module _ (b : List ℕ) {k : ℕ} {x : Triple} (here : x ≡ inCode (tripleOf b 
   pub ends-terms : Has b k → (x .subject < terms) × (x .object < terms)
   ends-terms (n, good, h) = (word-term good (word b h (inl (subject-is b here h))), word-term good (word b h (inr (object-is b here h))))
 
-  -- Staying at one and then at the other was looked at.
+  -- Staying at one and then at the other was looked at, where they are new.
   pub ends-rested : (up role : List ℕ) (g : Goal) (l : Label) (cost r : ℕ) {T U W : List ℕ} {was before now : Bool} →
-      Rested up role g l cost r (x .subject) T U was before → Rested up role g l cost r (x .object) U W before now →
+      RestedNew b k up role g l cost r (x .subject) T U was before → RestedNew b k up role g l cost r (x .object) U W before now →
       RestedBy b k up role g l cost r T W was now
   ends-rested up role g l cost r p q n good h any =
       let subject = rw (subject-is b here h) at p in
       let object = rw (object-is b here h) at q in
-      swept-then lowers-chain (subject (siteOf b n) (at-word (word b h (inl refl))) any) (object (siteOf b n) (at-word (word b h (inr refl))) any)
+      swept-then lowers-chain (subject n good h (at-word (word b h (inl refl))) any) (object n good h (at-word (word b h (inr refl))) any)
 
--- what was seen of staying at the ends of triple number k
-abbrev pub AtEnds : Frame → Work → ℕ → ℕ → List ℕ → Type 0
-AtEnds F w r k X = QuietAt F w r (meant.triple (F .site) k .subject) X × QuietAt F w r (meant.triple (F .site) k .object) X
+-- What was looked at is seen; what was not looked at, since it stands in an earlier triple, was seen there.
+pub rested-seen : (b : List ℕ) (k : ℕ) (up role : List ℕ) (g : Goal) (l : Label) (cost r t : ℕ) {T U : List ℕ} {was now : Bool} →
+    Rested up role g l cost r t T U was now → RestedNew b k up role g l cost r t T U was now
+rested-seen b k up role g l cost r t p n good h may any = swept-weaken looked (p (siteOf b n) may any)
 
--- What was seen at both ends of each triple was seen at every vocabulary term.
-pub each-word : {s : meant.Site} (Q : ℕ → Type 0) → ((k : ℕ) → k < length s → Q (meant.triple s k .subject) × Q (meant.triple s k .object)) →
+pub rested-earlier : (b : List ℕ) (k : ℕ) (up role : List ℕ) (g : Goal) (l : Label) (cost r t : ℕ) {T : List ℕ} {was : Bool} →
+    StandsEarlier b k t true → RestedNew b k up role g l cost r t T T was was
+rested-earlier b k up role g l cost r t stood n good h may any =
+    let (j, before, stands) = stood n h refl in swept-none lowers-chain (earlier before stands)
+
+-- What was seen, at both ends of each triple or of one before it, was seen at every vocabulary term.
+first-looked : {s : meant.Site} {Q : Type 0} {k t : ℕ} → ((j : ℕ) → j < k → Stands s j t → Q) → New s Q k t → Q
+first-looked before (earlier {j = j} h stands) = before j h stands
+first-looked before (looked q) = q
+
+each-below : {s : meant.Site} (Q : ℕ → Type 0) → ((k t : ℕ) → k < length s → Stands s k t → New s (Q t) k t) →
+    (fuel k t : ℕ) → k < fuel → k < length s → Stands s k t → Q t
+each-below Q seen zero k t h below stands = absurd (omega arith)
+each-below Q seen (suc fuel) k t h below stands =
+    first-looked (λ j before stood. each-below Q seen fuel j t (omega arith) (omega arith) stood) (seen k t below stands)
+
+pub each-word : {s : meant.Site} (Q : ℕ → Type 0) →
+    ((k : ℕ) → k < length s → New s (Q (meant.triple s k .subject)) k (meant.triple s k .subject) × New s (Q (meant.triple s k .object)) k (meant.triple s k .object)) →
     (t : ℕ) → meant.Voc s t → Q t
-each-word Q seen t v =
-    let (subject, object) = seen (v .number) (v .below) in
-    ⊎-elim (λ e. rw e subject) (λ e. rw e object) (v .stands)
+each-word {s} Q ends t v = each-below Q each (suc (v .number)) (v .number) t (omega arith) (v .below) (v .stands)
+  where
+    each : (k u : ℕ) → k < length s → Stands s k u → New s (Q u) k u
+    each k u below (inl e) = rw e (ends k below .0)
+    each k u below (inr e) = rw e (ends k below .1)
 
 -- A label whose variant is not the named one has no name.
 pub nameless : (l : Label) → OneOf (0 ∷ (2 ∷ [])) (tagOf the-type l) → Nameless l

@@ -1,5 +1,6 @@
 -- What the number table's functions promise.
 pub mod Pairs
+pub mod Lows
 pub mod Frame
 pub mod LinksOf
 pub mod Next
@@ -8,5 +9,4 @@ pub mod Bounded
 pub mod Table
 pub mod Told
 pub mod Sweep
-pub mod Under
 pub mod Work

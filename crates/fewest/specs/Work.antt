@@ -2,7 +2,7 @@
 -- The work of a step, of a star's empty rounds and of a row, looked at offer by offer.
 use Prim.Native.Nat.{ℕ, _+_, _-_, _<_, _≤_, min}
 use mathlib.Core.Path.{_≡_}
-use mathlib.Core.Logic.{_≢_}
+use mathlib.Core.Logic.{_≢_, _⊎_}
 use mathlib.Core.Bool.{Bool, true, false, cond}
 use mathlib.Core.List.{List, List·Memᴰ}
 use lib.ListN.{length, getD}
@@ -10,7 +10,7 @@ use lib.Dec.{eqb, ltb}
 use Rattle.meaning.specs.Limits.{terms, records, none}
 use Rattle.meaning.specs.Site as meant
 use Rattle.meaning.specs.Move.{Axis, self, Move, any, only}
-use Rattle.meaning.specs.Expression.{Rec, starring}
+use Rattle.meaning.specs.Expression.{starring}
 use Rattle.meaning.specs.Fewest.{end, anywhere}
 use Rattle.meaning.specs.Fewest as meaning
 use Rattle.records.specs.declared.Triple.{Triple}
@@ -24,10 +24,10 @@ use Rattle.records.specs.Rules.{lastAxis, axisNumbered, recOf, recordAt, recAt,
 use Rattle.fewest.specs.declared.Goal.{Goal}
 use Rattle.fewest.specs.declared.Goal.the-variants.{End, Anywhere}
 use Rattle.fewest.specs.declared.look.Moved.{Moved}
+use Rattle.fewest.specs.Pairs.{pairs}
 use Rattle.fewest.specs.Frame.{as-round, Climbs, Frame, frame}
 use Rattle.fewest.specs.Offer.{view, Continues, Work, stepping, proving, copying, resting, worksOf, Offer, Lowers, Quiet, Settles, Settled}
 use Rattle.fewest.specs.Sweep.{sum, Swept}
-use Rattle.fewest.specs.Under.{Rooted, SeenUnder}
 
 -- the code's goal is the meaning's
 abbrev pub goalOf : Goal → meaning.Goal
@@ -114,13 +114,38 @@ Rested up role g l cost r t T T′ was now =
     (s : meant.Site) → MayRest s l cost t → (cost ≡ 0 → l ≡ Any) →
     Looks (frame s up role g) (staying cost l) r (QuietAt (frame s up role g) (staying cost l) r t) T T′ was now
 
--- staying at the subject and the object of triple k was looked at
+-- the term stands in triple number k, as its subject or its object
+abbrev pub Stands : meant.Site → ℕ → ℕ → Type 0
+Stands s k t = (t ≡ meant.triple s k .subject) ⊎ (t ≡ meant.triple s k .object)
+
+-- of a term that stands in triple number k: this holds, or the term stands in a triple before it
+pub data New (s : meant.Site) (Q : Type 0) (k t : ℕ) : Type 0 where
+  earlier : {j : ℕ} → j < k → Stands s j t → New s Q k t
+  looked : Q → New s Q k t
+
+-- the answer tells of a term that it stands in a triple before number k
+abbrev pub StandsEarlier : List ℕ → ℕ → ℕ → Bool → Type 0
+StandsEarlier b k t told = (n : ℕ) → k < n → told ≡ true → (j : ℕ) × (j < k) × Stands (siteOf b n) j t
+
+-- staying at t, which stands in triple k, was looked at, or t stands in a triple before it
+abbrev pub RestedNew : List ℕ → ℕ → List ℕ → List ℕ → meaning.Goal → Label → ℕ → ℕ → ℕ → List ℕ → List ℕ → Bool → Bool → Type 0
+RestedNew b k up role g l cost r t T T′ was now =
+    (n : ℕ) → Accepted b n → k < n → MayRest (siteOf b n) l cost t → (cost ≡ 0 → l ≡ Any) →
+    Looks (frame (siteOf b n) up role g) (staying cost l) r
+    (λ X. New (siteOf b n) (QuietAt (frame (siteOf b n) up role g) (staying cost l) r t X) k t) T T′ was now
+
+-- what is seen of staying at the ends of triple number k
+abbrev pub AtEnds : Frame → Work → ℕ → ℕ → List ℕ → Type 0
+AtEnds F w r k X =
+    New (F .site) (QuietAt F w r (meant.triple (F .site) k .subject) X) k (meant.triple (F .site) k .subject) ×
+    New (F .site) (QuietAt F w r (meant.triple (F .site) k .object) X) k (meant.triple (F .site) k .object)
+
+-- staying at the subject and the object of triple k was looked at, where they are new
 abbrev pub RestedBy : List ℕ → ℕ → List ℕ → List ℕ → meaning.Goal → Label → ℕ → ℕ → List ℕ → List ℕ → Bool → Bool → Type 0
 RestedBy b k up role g l cost r T T′ was now =
     (n : ℕ) → Accepted b n → k < n → (cost ≡ 0 → l ≡ Any) →
     Looks (frame (siteOf b n) up role g) (staying cost l) r
-    (λ X. QuietAt (frame (siteOf b n) up role g) (staying cost l) r (meant.triple (siteOf b n) k .subject) X ×
-    QuietAt (frame (siteOf b n) up role g) (staying cost l) r (meant.triple (siteOf b n) k .object) X) T T′ was now
+    (AtEnds (frame (siteOf b n) up role g) (staying cost l) r k) T T′ was now
 
 -- a label without a name
 abbrev pub Nameless : Label → Type 0
@@ -164,7 +189,7 @@ abbrev pub RecordSwept : List ℕ → ℕ → Record → ℕ → List ℕ → Li
 RecordSwept b n x f up role g r T T′ was now =
     WorksSwept sum (λ w. Lowers (frame (siteOf b n) up role g) w r) (λ w. Quiet (frame (siteOf b n) up role g) w r) (worksOf (recOf x) r f) T T′ was now
 
--- what the sweeps stand on: a good site, the rule's records at their places, links that climb, and one tree of records
+-- what the sweeps stand on: a good site, the rule's records at their places, and links that climb
 pub record Ready (site : List ℕ) (n : ℕ) (rule starts : List ℕ) (count : ℕ) (up role first : List ℕ) : Type 0 where
   pub good : Accepted site n
   pub climbs : Climbs records up role
@@ -173,26 +198,6 @@ pub record Ready (site : List ℕ) (n : ℕ) (rule starts : List ℕ) (count : �
   pub firsts : (r : ℕ) → r < count → getD first r 0 < records
   pub reads : (r : ℕ) → r < count → recAt rule (getD starts r 0) ≡ getD (recordsOf rule) r starring
   pub sits : (r : ℕ) → r < count → Sits (recordAt rule (getD starts r 0)) r
-  pub tree : Rooted (recordsOf rule) first
-
--- the same, and r is one of the records
-abbrev pub ReadyAt : List ℕ → ℕ → List ℕ → List ℕ → List ℕ → List ℕ → List ℕ → ℕ → Type 0
-ReadyAt site n rule starts up role first r = (count : ℕ) × Ready site n rule starts count up role first × (r < count)
-
--- nothing that the works of record r offer is lower
-abbrev pub RecordQuiet : Frame → List Rec → List ℕ → ℕ → List ℕ → Type 0
-RecordQuiet F rs first r X = (w : Work) → List·Memᴰ w (worksOf (getD rs r starring) r (getD first r 0)) → Quiet F w r X
-
--- record r of the rule was swept, and each record under it
-abbrev pub SweptAt : List ℕ → ℕ → List ℕ → List ℕ → List ℕ → List ℕ → meaning.Goal → ℕ → List ℕ → List ℕ → Bool → Bool → Type 0
-SweptAt b n rule up role first g r T T′ was now =
-    let F = frame (siteOf b n) up role g in
-    Swept sum (Settles F (recordsOf rule) first) (RecordQuiet F (recordsOf rule) first r) T T′ was now
-
-abbrev pub SweptUnder : List ℕ → ℕ → List ℕ → List ℕ → List ℕ → List ℕ → meaning.Goal → ℕ → List ℕ → List ℕ → Bool → Bool → Type 0
-SweptUnder b n rule up role first g r T T′ was now =
-    let F = frame (siteOf b n) up role g in
-    SeenUnder sum (Settles F (recordsOf rule) first) (RecordQuiet F (recordsOf rule) first) (recordsOf rule) first r T T′ was now
 
 abbrev pub SweptOver : List ℕ → ℕ → List ℕ → List ℕ → List ℕ → List ℕ → meaning.Goal → List ℕ → List ℕ → Bool → Type 0
 SweptOver b n rule up role first g T T′ now =
@@ -202,3 +207,25 @@ SweptOver b n rule up role first g T T′ now =
 pub record SettledOver (b : List ℕ) (n : ℕ) (rule up role first : List ℕ) (g : meaning.Goal) (T T′ : List ℕ) : Type 0 where
   pub reached : Settles (frame (siteOf b n) up role g) (recordsOf rule) first T T′
   pub settled : Settled (frame (siteOf b n) up role g) (recordsOf rule) first T′
+
+-- staying was tried for row r, wherever
+abbrev pub Stayed : List ℕ → ℕ → List ℕ → List ℕ → meaning.Goal → Label → ℕ → ℕ → List ℕ → List ℕ → Type 0
+Stayed b n up role g l cost r T T′ = (cost ≡ 0 → l ≡ Any) → Lowers (frame (siteOf b n) up role g) (staying cost l) r T T′
+
+-- a move for a step of record r with this label was tried, whatever triple and axis make it
+abbrev pub Reached : Moved → Label → List ℕ → List ℕ → meaning.Goal → ℕ → List ℕ → List ℕ → Type 0
+Reached m l up role g r T T′ =
+    (s : meant.Site) (a : Axis) (k : ℕ) → Move s a any k (m .from) (m .middle) (m .to) → Lowers (frame s up role g) (workOf a l) r T T′
+
+-- some of the works of record r were tried
+abbrev pub RecordWorked : List ℕ → ℕ → Record → ℕ → List ℕ → List ℕ → meaning.Goal → ℕ → List ℕ → List ℕ → Type 0
+RecordWorked b n x f up role g r T T′ = Rows (λ w. Lowers (frame (siteOf b n) up role g) w r) (worksOf (recOf x) r f) T T′
+
+-- record r is this step
+unfoldable pub Stepping : (rule starts : List ℕ) → ℕ → Step → Type 0
+Stepping rule starts r x = recordAt rule (getD starts r 0) ≡ kind.Step x
+
+-- the lent table N became N′ by lowering along offers alone; which of them were looked at is not said
+pub record Hinted (b : List ℕ) (n : ℕ) (rule up role first : List ℕ) (g : meaning.Goal) (N N′ : List ℕ) : Type 0 where
+  pub long : length N′ ≡ length N
+  pub reached : Settles (frame (siteOf b n) up role g) (recordsOf rule) first (pairs N) (pairs N′)

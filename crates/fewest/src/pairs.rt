@@ -6,7 +6,7 @@ ghost use Rattle.records.specs.Bytes.{base};
 ghost use Rattle.fewest.specs.Pairs.{pairs};
 use records::bytes::BASE;
 
-fn wide(x: u8) -> usize
+pub fn wide(x: u8) -> usize
     ensures { λ r. ⌜ (r ≡ x) × (r < base) ⌝ }
 {
     x as usize

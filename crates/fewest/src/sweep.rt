@@ -1,15 +1,17 @@
-// Sweeps over the table: row by row, down the tree of the rule's records, until one changes nothing.
+// Sweeps over the table: row by row, record by record, until one changes nothing.
 use crate::Goal;
+use crate::levels::levels;
 use crate::look::look;
 use crate::look::rest;
 use crate::table::lower;
 use crate::table::number;
+use crate::threads::first_object;
+use crate::threads::first_subject;
 use records::Label;
 use records::RECORDS;
 use records::Record;
 use records::Step;
 use records::TERMS;
-use records::rule::operands_of;
 use records::rule::record_at;
 use records::site::triple_at;
 ghost use mathlib.Core.Path.{_≡_};
@@ -20,7 +22,7 @@ ghost use Rattle.records.specs.Sites.{Accepted};
 ghost use Rattle.fewest.specs.Pairs.{pairs};
 ghost use Rattle.fewest.specs.Frame.{Climbs};
 ghost use Rattle.fewest.specs.Table.{Full};
-ghost use Rattle.fewest.specs.Work.{goalOf, Tests, Has, RowSwept, RestedBy, RestsSwept, AxisSwept, StepSwept, Sits, RecordSwept, Ready, ReadyAt, SweptAt, SweptUnder, SweptOver, SettledOver};
+ghost use Rattle.fewest.specs.Work.{goalOf, Tests, Has, StandsEarlier, RowSwept, RestedNew, RestedBy, RestsSwept, AxisSwept, StepSwept, Sits, RecordSwept, Ready, SweptOver, SettledOver};
 
 // Row r is lowered to row a, place by place.
 fn sweep_row(numbers: &mut [u8], r: usize, a: usize, was: bool) -> bool
@@ -37,9 +39,52 @@ fn sweep_row(numbers: &mut [u8], r: usize, a: usize, was: bool) -> bool
     changed
 }
 
-// Staying at the subject and at the object of triple k, for record r.
+// The term stands in triple j, which comes before triple k, as its subject or its object.
+pub fn stands_earlier(site: &[u8], k: usize, j: usize, t: usize) -> bool
+    requires { ⌜ Has (now site) k ⌝ }
+    ensures { λ b. ⌜ StandsEarlier (now (site .entry)) k t b ⌝ }
+{
+    if k <= j {
+        return false;
+    }
+    let x = triple_at(site, j);
+    if x.subject == t {
+        return true;
+    }
+    if x.object == t {
+        return true;
+    }
+    false
+}
+
+// Staying at t, which stands in triple k, for record r; where it stands in triple j before it, that was looked at already.
+fn rest_new<'a>(
+    site: &[u8],
+    k: usize,
+    j: usize,
+    up: &'a [u8; RECORDS],
+    role: &'a [u8; RECORDS],
+    goal: Goal,
+    numbers: &mut [u8],
+    label: Label,
+    cost: usize,
+    r: usize,
+    t: usize,
+    was: bool,
+) -> bool
+    requires { ⌜ Has (now site) k × Full (now numbers) × Climbs records (now up) (now role) × (r < records) × (t < terms) × Tests label r × (cost < 2) ⌝ }
+    ensures { λ changed. ⌜ RestedNew (now (site .entry)) k (now (up .entry)) (now (role .entry)) (goalOf goal) label cost r t (pairs (now (numbers .entry))) (pairs (now (numbers .exit))) was changed ⌝ }
+{
+    if stands_earlier(site, k, j, t) {
+        return was;
+    }
+    rest(up, role, goal, numbers, label, cost, r, t, was)
+}
+
+// Staying at the subject and at the object of triple k, for record r. The first triples with these terms are hints.
 fn rest_by<'a>(
     site: &[u8],
+    scratch: &[u8],
     k: usize,
     up: &'a [u8; RECORDS],
     role: &'a [u8; RECORDS],
@@ -54,13 +99,42 @@ fn rest_by<'a>(
     ensures { λ changed. ⌜ RestedBy (now (site .entry)) k (now (up .entry)) (now (role .entry)) (goalOf goal) label cost r (pairs (now (numbers .entry))) (pairs (now (numbers .exit))) was changed ⌝ }
 {
     let x = triple_at(site, k);
-    let first = rest(up, role, goal, numbers, label, cost, r, x.subject, was);
-    rest(up, role, goal, numbers, label, cost, r, x.object, first)
+    let j = first_subject(scratch, x.subject);
+    let i = first_object(scratch, x.object);
+    let first = rest_new(
+        site,
+        k,
+        j,
+        up,
+        role,
+        goal,
+        numbers,
+        label,
+        cost,
+        r,
+        x.subject,
+        was,
+    );
+    rest_new(
+        site,
+        k,
+        i,
+        up,
+        role,
+        goal,
+        numbers,
+        label,
+        cost,
+        r,
+        x.object,
+        first,
+    )
 }
 
 // Staying at each vocabulary term, for record r.
 fn sweep_rests<'a>(
     site: &[u8],
+    scratch: &[u8],
     triples: usize,
     up: &'a [u8; RECORDS],
     role: &'a [u8; RECORDS],
@@ -77,7 +151,19 @@ fn sweep_rests<'a>(
     let mut changed = was;
     let mut k = 0;
     while k < triples {
-        changed = rest_by(site, k, up, role, goal, numbers, label, cost, r, changed);
+        changed = rest_by(
+            site,
+            scratch,
+            k,
+            up,
+            role,
+            goal,
+            numbers,
+            label,
+            cost,
+            r,
+            changed,
+        );
         k += 1;
     }
     changed
@@ -110,6 +196,7 @@ fn sweep_axis<'a>(
 // The step of record r, whatever its axis: self stays, at its named term or at each vocabulary term.
 fn sweep_step<'a>(
     site: &[u8],
+    scratch: &[u8],
     triples: usize,
     step: Step,
     up: &'a [u8; RECORDS],
@@ -129,12 +216,25 @@ fn sweep_step<'a>(
     if let Label::Term(term) = label {
         return rest(up, role, goal, numbers, label, 1, r, term, was);
     }
-    sweep_rests(site, triples, up, role, goal, numbers, label, 1, r, was)
+    sweep_rests(
+        site,
+        scratch,
+        triples,
+        up,
+        role,
+        goal,
+        numbers,
+        label,
+        1,
+        r,
+        was,
+    )
 }
 
 // The row of record r, by its record; `first` is the record of a join's first operand.
 fn sweep_record<'a>(
     site: &[u8],
+    scratch: &[u8],
     triples: usize,
     rec: Record,
     first: usize,
@@ -149,7 +249,18 @@ fn sweep_record<'a>(
     ensures { λ changed. ⌜ RecordSwept (now (site .entry)) triples rec first (now (up .entry)) (now (role .entry)) (goalOf goal) r (pairs (now (numbers .entry))) (pairs (now (numbers .exit))) was changed ⌝ }
 {
     match rec {
-        Record::Step(step) => sweep_step(site, triples, step, up, role, goal, numbers, r, was),
+        Record::Step(step) => sweep_step(
+            site,
+            scratch,
+            triples,
+            step,
+            up,
+            role,
+            goal,
+            numbers,
+            r,
+            was,
+        ),
         Record::Sequence => sweep_row(numbers, r, first, was),
         Record::Choice => {
             let one = sweep_row(numbers, r, first, was);
@@ -159,6 +270,7 @@ fn sweep_record<'a>(
             let one = sweep_row(numbers, r, r - 1, was);
             sweep_rests(
                 site,
+                scratch,
                 triples,
                 up,
                 role,
@@ -173,122 +285,10 @@ fn sweep_record<'a>(
     }
 }
 
-// The row of record r of the rule.
-fn sweep_at<'a>(
-    site: &[u8],
-    triples: usize,
-    rule: &[u8],
-    starts: &[usize; RECORDS],
-    up: &'a [u8; RECORDS],
-    role: &'a [u8; RECORDS],
-    first: &'a [u8; RECORDS],
-    goal: Goal,
-    numbers: &mut [u8],
-    r: usize,
-    was: bool,
-) -> bool
-    requires { ⌜ ReadyAt (now site) triples (now rule) (now starts) (now up) (now role) (now first) r × Full (now numbers) ⌝ }
-    ensures { λ changed. ⌜ SweptAt (now (site .entry)) triples (now (rule .entry)) (now (up .entry)) (now (role .entry)) (now (first .entry)) (goalOf goal) r (pairs (now (numbers .entry))) (pairs (now (numbers .exit))) was changed ⌝ }
-{
-    let rec = record_at(rule, starts[r]);
-    let operand = first[r] as usize;
-    sweep_record(site, triples, rec, operand, up, role, goal, numbers, r, was)
-}
-
-// The rows of all that stands under record r: under its second operand, under its first, then its own; a test before its
-// step. A number is taken over from what follows, and what follows a first operand is the second.
-fn sweep_under<'a>(
-    site: &[u8],
-    triples: usize,
-    rule: &[u8],
-    starts: &[usize; RECORDS],
-    up: &'a [u8; RECORDS],
-    role: &'a [u8; RECORDS],
-    first: &'a [u8; RECORDS],
-    goal: Goal,
-    numbers: &mut [u8],
-    r: usize,
-    was: bool,
-) -> bool
-    requires { ⌜ ReadyAt (now site) triples (now rule) (now starts) (now up) (now role) (now first) r × Full (now numbers) ⌝ }
-    ensures { λ changed. ⌜ SweptUnder (now (site .entry)) triples (now (rule .entry)) (now (up .entry)) (now (role .entry)) (now (first .entry)) (goalOf goal) r (pairs (now (numbers .entry))) (pairs (now (numbers .exit))) was changed ⌝ }
-{
-    let taken = operands_of(record_at(rule, starts[r]));
-    if taken == 0 {
-        return sweep_at(
-            site,
-            triples,
-            rule,
-            starts,
-            up,
-            role,
-            first,
-            goal,
-            numbers,
-            r,
-            was,
-        );
-    }
-    let one = sweep_under(
-        site,
-        triples,
-        rule,
-        starts,
-        up,
-        role,
-        first,
-        goal,
-        numbers,
-        r - 1,
-        was,
-    );
-    if taken == 1 {
-        return sweep_at(
-            site,
-            triples,
-            rule,
-            starts,
-            up,
-            role,
-            first,
-            goal,
-            numbers,
-            r,
-            one,
-        );
-    }
-    let operand = first[r] as usize;
-    let both = sweep_under(
-        site,
-        triples,
-        rule,
-        starts,
-        up,
-        role,
-        first,
-        goal,
-        numbers,
-        operand,
-        one,
-    );
-    sweep_at(
-        site,
-        triples,
-        rule,
-        starts,
-        up,
-        role,
-        first,
-        goal,
-        numbers,
-        r,
-        both,
-    )
-}
-
-// Every row once, from the whole rule down. False where nothing changed.
+// Every row once. False where nothing changed.
 fn sweep<'a>(
     site: &[u8],
+    scratch: &[u8],
     triples: usize,
     rule: &[u8],
     starts: &[usize; RECORDS],
@@ -302,24 +302,33 @@ fn sweep<'a>(
     requires { ⌜ Ready (now site) triples (now rule) (now starts) count (now up) (now role) (now first) × Full (now numbers) ⌝ }
     ensures { λ changed. ⌜ SweptOver (now (site .entry)) triples (now (rule .entry)) (now (up .entry)) (now (role .entry)) (now (first .entry)) (goalOf goal) (pairs (now (numbers .entry))) (pairs (now (numbers .exit))) changed ⌝ }
 {
-    sweep_under(
-        site,
-        triples,
-        rule,
-        starts,
-        up,
-        role,
-        first,
-        goal,
-        numbers,
-        count - 1,
-        false,
-    )
+    let mut changed = false;
+    let mut r = 0;
+    while r < count {
+        let rec = record_at(rule, starts[r]);
+        let operand = first[r] as usize;
+        changed = sweep_record(
+            site,
+            scratch,
+            triples,
+            rec,
+            operand,
+            up,
+            role,
+            goal,
+            numbers,
+            r,
+            changed,
+        );
+        r += 1;
+    }
+    changed
 }
 
 // Sweeps until one changes nothing.
 pub fn settle<'a>(
     site: &[u8],
+    scratch: &[u8],
     triples: usize,
     rule: &[u8],
     starts: &[usize; RECORDS],
@@ -335,6 +344,7 @@ pub fn settle<'a>(
 {
     while sweep(
         site,
+        scratch,
         triples,
         rule,
         starts,
@@ -378,8 +388,22 @@ pub fn fill<'a>(
     ensures { λ _. ⌜ SettledOver (now (site .entry)) triples (now (rule .entry)) (now (up .entry)) (now (role .entry)) (now (first .entry)) (goalOf goal) (replicate (records * terms) none) (pairs (now (numbers .exit))) ⌝ }
 {
     clear(numbers);
+    levels(
+        site,
+        triples,
+        rule,
+        starts,
+        count,
+        up,
+        role,
+        first,
+        goal,
+        scratch,
+        numbers,
+    );
     settle(
         site,
+        scratch,
         triples,
         rule,
         starts,

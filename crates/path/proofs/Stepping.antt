@@ -17,6 +17,8 @@ use Rattle.meaning.specs.Expression.{Rec, starring}
 use Rattle.meaning.specs.Fewest.{Goal}
 use Rattle.records.specs.declared.Label.{Label}
 use Rattle.records.specs.Rules.{labelled}
+use Rattle.records.specs.Find.{FirstFrom, subjectAt}
+use Rattle.records.proofs.Halving.{Rising, none-before, none-after}
 use Rattle.fewest.specs.declared.look.Moved.{Moved}
 use Rattle.fewest.specs.Frame.{Frame, frame}
 use Rattle.fewest.specs.Work.{Least, allowing}
@@ -24,7 +26,7 @@ use Rattle.fewest.proofs.Axes as axes
 use Rattle.path.specs.declared.Taken.{Taken}
 use Rattle.path.specs.declared.Pick.the-variants.{Step, Nothing}
 use Rattle.path.specs.Tells.{Tells, holds, fails}
-use Rattle.path.specs.Offers.{Suits, Stay, Smallest, found, none, Serves, SmallestBy}
+use Rattle.path.specs.Offers.{Suits, Stay, AtSubject, Smallest, found, none, Serves, SmallestBy}
 use Rattle.path.proofs.Telling.{told, told-not}
 use Rattle.path.proofs.Carrying.{carries-move, move-carries, carries-stay, stay-carries, below}
 
@@ -111,3 +113,18 @@ module _ {s : Site} {up role : List ℕ} {g : Goal} {T : List ℕ} {a : Axis} (g
   triple-none h idle rs e =
       smallest-none (Serves (frame s up role g) T rs t d) r
       (λ j v y. let (_, move, _) = carries-move goes l e (y .0) in let b = below goes move in idle j (omega arith) rs e v y)
+
+  -- Where the axis begins at the subject, only the triples with subject t can offer a step, and they stand together.
+  module _ (begins : AtSubject a) where
+    other-idle : {k : ℕ} → t ≢ subjectAt s k → Idle (frame s up role g) T a l r t d k
+    other-idle n rs e u x = let (_, move, _) = carries-move goes l e (x .0) in n (begins s _ _ _ _ move)
+
+    module _ {n first : ℕ} (first-from : FirstFrom (subjectAt s) n t first) where
+      pub subject-idle : (j : ℕ) → j < first → Idle (frame s up role g) T a l r t d j
+      subject-idle j h = other-idle (none-before first-from h)
+
+      pub subject-none : {k : ℕ} → Rising (subjectAt s) n → length s ≤ n → first ≤ k → subjectAt s k ≢ t →
+          ((j : ℕ) → j < k → Idle (frame s up role g) T a l r t d j) → SmallestBy (frame s up role g) T a l t d r Nothing
+      subject-none {k} rises all h other idle =
+          triple-none all λ j below.
+          elim (decLt j k) [ yes i ↦ idle j i | no i ↦ other-idle (none-after first-from rises h other (omega arith) below) ]

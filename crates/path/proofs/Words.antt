@@ -1,36 +1,70 @@
--- The search for a word: the vocabulary is the subjects and objects of the triples, and these were looked at one by one.
+-- The search for a word: the vocabulary is the subjects and the objects of the triples.
+-- The subjects stand in order, so the first from t on tells; the objects are looked at one by one.
 use Prim.Native.Nat.{ℕ, _*_, _<_, _≤_}
-use mathlib.Core.Path.{_≡_, sym, ap, _∙_}
-use mathlib.Core.Logic.{_≢_, _⊎_, inl, inr, ⊎-elim}
-use mathlib.Core.Bool.{true, false}
+use mathlib.Core.Path.{_≡_, refl, sym, ap, _∙_}
+use mathlib.Core.Logic.{_≢_, inl, inr, ⊎-elim}
+use mathlib.Core.Bool.{Bool, true, false}
 use mathlib.Core.List.{List}
 use native.Mathlib.Omega.{arith}
-use Rattle.meaning.specs.Site.{Voc}
-use Rattle.records.specs.declared.Triple.{Triple}
-use Rattle.records.specs.Sites.{tripleWidth, tripleOf, inCode, siteOf}
-use Rattle.records.proofs.Sites.{length-siteOf, triple-siteOf}
+use native.Mathlib.Decide.{decLt}
+use lib.ListN.{length}
+use lib.Dec.{eqb}
+use borrow.Author.Tests.{eqb-true, eqb-false}
+use Rattle.meaning.specs.Site.{Triple, Site, triple, Voc}
+use Rattle.records.specs.declared.Triple as code
+use Rattle.records.specs.Sites.{tripleWidth, tripleOf, inCode, siteOf, Accepted}
+use Rattle.records.specs.Find.{FirstFrom, subjectAt}
+use Rattle.records.proofs.Sites.{length-siteOf, read-siteOf}
+use Rattle.records.proofs.Halving.{none-before, none-after, accepted-rises}
 use Rattle.path.specs.Tells.{Tells, holds, fails}
+use Rattle.path.specs.Words.{StandsAs}
+use Rattle.path.proofs.Telling.{told, told-not}
 
--- triple number k of these bytes has t as subject or object
-abbrev pub Bears : List ℕ → (t k : ℕ) → Type 0
-Bears b t k = (t ≡ tripleOf b (k * tripleWidth) .subject) ⊎ (t ≡ tripleOf b (k * tripleWidth) .object)
+module _ {key : Triple → ℕ} {s : Site} {t : ℕ} where
+  pub stands-found : {k : ℕ} → k < length s → t ≡ key (triple s k) → Tells (StandsAs key s t) true
+  stands-found {k} h e = holds (record { number = k; below = h; stands = e })
 
-module _ (b : List ℕ) (n t : ℕ) where
-  pub word-found : {k : ℕ} → k < n → Bears b t k → Tells (Voc (siteOf b n) t) true
-  word-found {k} h e = holds (record { number = k; below = rw (length-siteOf b n) h; stands = rw (triple-siteOf b n k h) e })
+  pub stands-none : {m : ℕ} → length s ≤ m → ((k : ℕ) → k < m → t ≢ key (triple s k)) → Tells (StandsAs key s t) false
+  stands-none l none = fails λ v. let h = v .below in none (v .number) (omega arith) (v .stands)
 
-  pub word-none : {m : ℕ} → n ≤ m → ((k : ℕ) → k < m → Bears b t k → ⊥) → Tells (Voc (siteOf b n) t) false
-  word-none l none = fails λ v.
-      let h = rw (length-siteOf b n) at (v .below) in
-      none (v .number) (omega arith) (rw (triple-siteOf b n (v .number) h) at (v .stands))
+-- The first triple from t on tells whether there is one with subject t.
+module _ (b : List ℕ) {n t first : ℕ} (found : FirstFrom (subjectAt (siteOf b n)) n t first) where
+  pub subject-none : n ≤ first → Tells (StandsAs (λ x. x .subject) (siteOf b n) t) false
+  subject-none l = stands-none (rw (length-siteOf b n) l) (λ k. none-before found)
 
--- The triple that was read stands there as the code holds it.
-module _ (b : List ℕ) (k : ℕ) {t : ℕ} {x : Triple} (read : x ≡ inCode (tripleOf b (k * tripleWidth))) where
-  pub by-subject : x .subject ≡ t → Bears b t k
-  by-subject e = inl (sym e ∙ ap (λ y. y .subject) read)
+  pub subject-tells : {x : code.Triple} → Accepted b n → first < n → x ≡ inCode (tripleOf b (first * tripleWidth)) →
+      Tells (StandsAs (λ x. x .subject) (siteOf b n) t) (eqb (x .subject) t)
+  subject-tells {x} good h read = go (eqb (x .subject) t) refl
+    where
+      same : x .subject ≡ subjectAt (siteOf b n) first
+      same = ap (λ y. y .subject) (read-siteOf b read h)
 
-  pub by-object : x .object ≡ t → Bears b t k
-  by-object e = inr (sym e ∙ ap (λ y. y .object) read)
+      go : (d : Bool) → eqb (x .subject) t ≡ d → Tells (StandsAs (λ x. x .subject) (siteOf b n) t) d
+      go true q = stands-found (rw (length-siteOf b n) h) (sym (eqb-true (x .subject) t q) ∙ same)
+      go false q = stands-none {m = n} (rw (length-siteOf b n) (omega arith)) λ k below.
+          elim (decLt k first) [
+            | yes early ↦ none-before found early
+            | no late ↦ none-after found (accepted-rises good) (omega arith) (λ e. eqb-false (x .subject) t q (same ∙ e)) (omega arith) below
+          ]
 
-  pub by-neither : x .subject ≢ t → x .object ≢ t → Bears b t k → ⊥
-  by-neither m n s = ⊎-elim (λ e. m (ap (λ y. y .subject) read ∙ sym e)) (λ e. n (ap (λ y. y .object) read ∙ sym e)) s
+-- The object of the triple that was read.
+module _ (b : List ℕ) {n k : ℕ} {x : code.Triple} (read : x ≡ inCode (tripleOf b (k * tripleWidth))) (h : k < n) where
+  same : x .object ≡ triple (siteOf b n) k .object
+  same = ap (λ y. y .object) (read-siteOf b read h)
+
+  pub object-found : {t : ℕ} → x .object ≡ t → Tells (StandsAs (λ x. x .object) (siteOf b n) t) true
+  object-found e = stands-found (rw (length-siteOf b n) h) (sym e ∙ same)
+
+  pub object-other : {t : ℕ} → x .object ≢ t → t ≢ triple (siteOf b n) k .object
+  object-other o e = o (same ∙ sym e)
+
+-- A word is a subject or an object.
+module _ {s : Site} {t : ℕ} {first : Bool} (tells : Tells (StandsAs (λ x. x .subject) s t) first) where
+  pub word-subject : first ≡ true → Tells (Voc s t) true
+  word-subject e = let x = told tells e in holds (record { number = x .number; below = x .below; stands = inl (x .stands) })
+
+  pub word-object : {second : Bool} → first ≡ false → Tells (StandsAs (λ x. x .object) s t) second → Tells (Voc s t) second
+  word-object e (holds x) = holds (record { number = x .number; below = x .below; stands = inr (x .stands) })
+  word-object e (fails n) = fails λ v.
+      ⊎-elim (λ q. told-not tells e (record { number = v .number; below = v .below; stands = q }))
+      (λ q. n (record { number = v .number; below = v .below; stands = q })) (v .stands)

@@ -11,6 +11,7 @@ use records::NONE;
 use records::RECORDS;
 use records::Record;
 use records::Step;
+use records::find::from_subject;
 use records::rule::record_at;
 use records::site::triple_at;
 ghost use Prim.Native.Nat.{_<_, _≤_};
@@ -25,7 +26,7 @@ ghost use Rattle.fewest.specs.Frame.{Climbs, frame};
 ghost use Rattle.fewest.specs.Table.{Full};
 ghost use Rattle.fewest.specs.Work.{goalOf, Tests, Ready};
 ghost use Rattle.path.specs.Tells.{Tells};
-ghost use Rattle.path.specs.Offers.{Suited, MayStay, SmallestBy, SmallestOf, SmallestOpen};
+ghost use Rattle.path.specs.Offers.{Suited, MayStay, AtSubject, SmallestBy, SmallestOf, SmallestOpen};
 
 // The move begins at t, the label of record r lets its middle pass, and d steps are left where it ends.
 fn suits<'a>(
@@ -123,6 +124,39 @@ fn by_triple<'a>(
     Pick::Nothing
 }
 
+// The first triple with subject t by which record r can be taken: they stand together, from the first whose subject is not less.
+fn by_subject<'a>(
+    site: &[u8],
+    triples: usize,
+    up: &'a [u8; RECORDS],
+    role: &'a [u8; RECORDS],
+    goal: Goal,
+    numbers: &[u8],
+    axis: usize,
+    label: Label,
+    r: usize,
+    t: usize,
+    d: usize,
+) -> Pick
+    requires { ⌜ Accepted (now site) triples × Full (now numbers) × Climbs records (now up) (now role) × (r < records) × Tests label r × (axis ≢ 0) × (axis ≤ lastAxis) × AtSubject (axisNumbered axis) ⌝ }
+    ensures { λ p. ⌜ SmallestBy (frame (siteOf (now (site .entry)) triples) (now (up .entry)) (now (role .entry)) (goalOf goal)) (pairs (now (numbers .entry))) (axisNumbered axis) label t d r p ⌝ }
+{
+    let mut k = from_subject(site, triples, t);
+    while k < triples {
+        let x = triple_at(site, k);
+        if x.subject != t {
+            return Pick::Nothing;
+        }
+        let m = by_axis(axis, x);
+        let to = m.to;
+        if suits(up, role, goal, numbers, label, r, m, t, d) {
+            return Pick::Step(Taken { by: r, over: k, to });
+        }
+        k += 1;
+    }
+    Pick::Nothing
+}
+
 // The smallest step of record r, which is this step.
 fn by_step<'a>(
     site: &[u8],
@@ -144,6 +178,12 @@ fn by_step<'a>(
     let label = step.label;
     if axis == 0 {
         return by_self(up, role, goal, numbers, label, word, r, t, d);
+    }
+    if axis == 1 {
+        return by_subject(site, triples, up, role, goal, numbers, axis, label, r, t, d);
+    }
+    if axis == 3 {
+        return by_subject(site, triples, up, role, goal, numbers, axis, label, r, t, d);
     }
     by_triple(site, triples, up, role, goal, numbers, axis, label, r, t, d)
 }

@@ -5,6 +5,7 @@ pub mod SiteRecord
 pub mod Sites
 pub mod Readers
 pub mod ReaderParts
+pub mod Halving
 pub mod Reading
 pub mod Progress
 pub mod Checked

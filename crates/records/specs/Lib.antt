@@ -3,6 +3,7 @@ pub mod Refusals
 pub mod Bytes
 pub mod Sites
 pub mod Reader
+pub mod Find
 pub mod Rules
 pub mod First
 pub mod Queries

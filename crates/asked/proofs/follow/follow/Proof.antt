@@ -4,13 +4,15 @@ use mathlib.Core.Path.{_≡_, sym, ap, _∙_}
 use native.Mathlib.Omega.{arith}
 use lib.ListN.{length, getD}
 use Rattle.meaning.specs.Limits.{records}
+use Rattle.fewest.specs.Lows.{lows}
 use Rattle.asked.specs.Seek.{Whole}
+use Rattle.asked.proofs.LowBits.{lows-bits, same-long}
 use Rattle.asked.proofs.Climb.{Climbed, climb-begins, climb-home, climb-held, climb-first, climb-up}
 use Rattle.asked.proofs.follow.follow.Statement.{statement}
 use Rattle.asked.proofs.follow.follow.Tie as tie
 
 abbrev Inv-loop : tie.InvT-loop
-Inv-loop up role asked₀ ends₀ r u was more₀ at₀ asked ends more at = Climbed up role r u at asked₀ ends₀ asked ends was more
+Inv-loop up role asked₀ ends₀ r u was more₀ at₀ asked ends more at = Climbed up role r u at (lows asked₀) ends₀ (lows asked) ends was more
 
 abbrev μ-loop : tie.MeasureT-loop
 μ-loop up role asked₀ ends₀ r u was more₀ at₀ asked ends more at = records - at
@@ -24,10 +26,10 @@ higher c = c .before .before .before .before .before .pre .0 .higher _ (c .befor
 long : (c : tie.At-loop Inv-loop μ-loop) → let x = c .before .before .before .args in
     (length (c .loop .asked) ≡ length (x .asked .now)) × (length (c .loop .ends) ≡ length (x .ends .now))
 unfolding Whole
-long c = (c .loop .inv .whole ∙ sym (c .before .before .before .pre .1), ap length (c .loop .inv .lent))
+long c = (same-long _ _ (c .loop .inv .whole ∙ sym (c .before .before .before .pre .1)), ap length (c .loop .inv .lent))
 
 loop-holds : tie.Need-loop-holds Inv-loop μ-loop
-loop-holds c = let x = c .before .before in climb-begins (x .pre .4) (x .pre .1) (x .pre .2)
+loop-holds c = let x = c .before .before in climb-begins (x .pre .3) (x .pre .1) (lows-bits _)
 
 element-copy-out-stands : tie.Need-element-copy-out-stands Inv-loop μ-loop
 unfolding records
@@ -36,7 +38,7 @@ element-copy-out-stands c = c .loop .inv .inside
 arrive-requires : tie.Need-arrive-requires Inv-loop μ-loop
 arrive-requires c κs =
     let y = c .before .before .before in
-    rw (y .loop .inv .lent) (y .before .before .before .pre .3)
+    rw (y .loop .inv .lent) (y .before .before .before .pre .2)
 
 same-length : tie.Need-same-length Inv-loop μ-loop
 same-length c = omega (arith, long (c .before .before .before .before .before .before))
@@ -47,7 +49,7 @@ same-length-2 c = omega (arith, long (c .before .before .before .before .before 
 returns : tie.Need-returns Inv-loop μ-loop
 returns c =
     let y = c .before .before .before .before .before .before in
-    climb-home (y .loop .inv) (c .before .before .before .before .if1 .taken) (y .before .before .before .pre .3) (c .before .before .arrive .ensures)
+    climb-home (y .loop .inv) (c .before .before .before .before .if1 .taken) (y .before .before .before .pre .2) (c .before .before .arrive .ensures)
 
 same-length-3 : tie.Need-same-length-3 Inv-loop μ-loop
 same-length-3 c = omega (arith, long (c .before .before .before))
@@ -72,7 +74,7 @@ sub-mark c = omega (arith, higher (c .before .before .before .before))
 mark-requires : tie.Need-mark-requires Inv-loop μ-loop
 mark-requires c κs =
     let y = c .before .before .before .before .before .before in
-    (y .loop .inv .whole, y .loop .inv .bits, omega (arith, higher (c .before .before .before .before)), y .before .before .before .pre .5)
+    (y .loop .inv .whole, omega (arith, higher (c .before .before .before .before)), y .before .before .before .pre .4)
 
 same-length-5 : tie.Need-same-length-5 Inv-loop μ-loop
 same-length-5 c = omega (arith, long (c .before .before .before .before .before .before .before .before .before))
@@ -85,12 +87,12 @@ returns-3 c =
     let z = c .before .before .before .before .before .before .before in
     let y = z .before .before in
     climb-first (y .loop .inv) (c .before .before .before .before .if3 .taken) (omega (arith, higher z))
-    (y .before .before .before .pre .5) (c .before .before .mark .ensures)
+    (y .before .before .before .pre .4) (c .before .before .mark .ensures)
 
 again-requires : tie.Need-again-requires Inv-loop μ-loop
 again-requires c κs =
     let y = c .before .before .before .before .before .before in
-    (y .loop .inv .whole, y .loop .inv .bits, y .loop .inv .inside, y .before .before .before .pre .5)
+    (y .loop .inv .whole, y .loop .inv .inside, y .before .before .before .pre .4)
 
 loop-less : tie.Need-loop-less Inv-loop μ-loop
 loop-less c = omega (arith, higher (c .before .before .before .before .before .before .before))
@@ -100,7 +102,7 @@ loop-again c =
     let z = c .before .before .before .before .before .before .before in
     let y = z .before .before in
     let x = y .before .before .before in
-    climb-up (y .loop .inv) (x .pre .0) (x .pre .5) (z .if1 .left) (c .before .before .before .before .before .before .if2 .left)
+    climb-up (y .loop .inv) (x .pre .0) (x .pre .4) (z .if1 .left) (c .before .before .before .before .before .before .if2 .left)
     (c .before .before .before .before .if3 .left) (c .before .before .again .ensures)
 
 pub follow-spec : {M : Type 1} → statement M

@@ -19,7 +19,7 @@ enum-told-3 c = search needs
 sub-mark : tie.Need-sub-mark
 sub-mark c =
     let x = c .before .before .before .before in
-    let h : 0 < x .args .r = rw (c .before .enum-told3 .given .1) at (x .pre .4) in
+    let h : 0 < x .args .r = rw (c .before .enum-told3 .given .1) at (x .pre .3) in
     omega arith
 
 mark-requires : tie.Need-mark-requires

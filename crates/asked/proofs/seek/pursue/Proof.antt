@@ -4,7 +4,8 @@ use mathlib.Core.Path.{sym, _∙_}
 use borrow.Author.Needs.{needs}
 use borrow.Author.Tests.{not-true, not-false}
 use Rattle.fewest.specs.Pairs.{pairs}
-use Rattle.asked.proofs.OneMark.{if-whole, if-bits}
+use Rattle.asked.proofs.OneMark.{if-whole}
+use Rattle.asked.proofs.LowBits.{lows-bits}
 use Rattle.asked.proofs.Seeking.{pursue-unmarked, pursue-barred, pursue-passes}
 use Rattle.asked.proofs.seek.pursue.Statement.{statement}
 use Rattle.asked.proofs.seek.pursue.Tie as tie
@@ -31,11 +32,10 @@ follow-requires c κs =
     let y = c .before .before .before .before .before .before in
     let x = y .before .before .before .before .before .before .before .before in (
       x .pre .1,
-      if-whole (x .pre .3) _ (y .ask-test .ensures) (x .pre .2),
-      if-bits (x .pre .3) _ (y .ask-test .ensures),
+      if-whole (lows-bits _) _ (y .ask-test .ensures) (x .pre .2),
+      x .pre .3,
       x .pre .4,
-      x .pre .5,
-      x .pre .9,
+      x .pre .8,
     )
 
 same-length-2 : tie.Need-same-length-2
@@ -51,7 +51,7 @@ returns-2 c =
     let x = y .before .before .before .before .before .before .before .before in
     pursue-passes (pairs (x .args .numbers .now)) (x .args .label)
     (sym (y .before .before .before .is-marked .ensures) ∙ not-false _ (y .before .before .if1 .left))
-    (x .pre .2) (x .pre .3) (x .pre .5) (x .pre .7) (x .pre .8) (y .ask-test .ensures)
+    (x .pre .2) (lows-bits _) (x .pre .4) (x .pre .6) (x .pre .7) (y .ask-test .ensures)
     (sym (z .before .before .before .before .allows .ensures) ∙ z .before .before .before .if2 .taken) (z .follow .ensures)
 
 same-length-4 : tie.Need-same-length-4
@@ -63,7 +63,7 @@ returns-3 c =
     let x = y .before .before .before .before .before .before .before .before in
     pursue-barred (pairs (x .args .numbers .now)) (x .args .label)
     (sym (y .before .before .before .is-marked .ensures) ∙ not-false _ (y .before .before .if1 .left))
-    (x .pre .2) (x .pre .3) (x .pre .5) (x .pre .7) (x .pre .8) (y .ask-test .ensures)
+    (x .pre .2) (lows-bits _) (x .pre .4) (x .pre .6) (x .pre .7) (y .ask-test .ensures)
     (sym (c .before .allows .ensures) ∙ c .if2 .left)
 
 pub pursue-spec : {M : Type 1} → statement M

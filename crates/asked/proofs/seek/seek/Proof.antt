@@ -23,7 +23,7 @@ pursue-requires : tie.Need-pursue-requires
 pursue-requires c κs =
     let t = in-terms (c .before .before) in
     let p = c .before .before .before .before .before .before .before .before .pre in
-    (p .1, p .2, p .3, p .4, p .5, p .6, p .7, t .from, t .middle, t .to)
+    (p .1, p .2, p .3, p .4, p .5, p .6, t .from, t .middle, t .to)
 
 same-length : tie.Need-same-length
 same-length c = search needs

@@ -6,18 +6,20 @@ use Rattle.records.specs.Rules.{recordsOf}
 use Rattle.fewest.specs.Pairs.{pairs}
 use Rattle.fewest.specs.Frame.{frame}
 use Rattle.fewest.proofs.Loops.{swept-fell, swept-still}
+use Rattle.fewest.specs.Lows.{lows}
 use Rattle.asked.specs.Mark.{marks, blanks, Marks-on, rest}
 use Rattle.asked.proofs.Marking.{marks-on-then, marks-on-long}
+use Rattle.asked.proofs.LowBits.{same-long}
 use Rattle.asked.proofs.Fit.{marks-on-fit}
 use Rattle.asked.proofs.spread.settle.Statement.{statement}
 use Rattle.asked.proofs.spread.settle.Tie as tie
 
 abbrev Inv-loop : tie.InvT-loop
 Inv-loop site triples rule starts count up role first numbers asked₀ ends₀ asked ends =
-    (g : Goal) → Marks-on (frame (siteOf site triples) up role g) (pairs numbers) (recordsOf rule) first (marks asked₀ ends₀) (marks asked ends)
+    (g : Goal) → Marks-on (frame (siteOf site triples) up role g) (pairs numbers) (recordsOf rule) first (marks (lows asked₀) ends₀) (marks (lows asked) ends)
 
 abbrev μ-loop : tie.MeasureT-loop
-μ-loop site triples rule starts count up role first numbers asked₀ ends₀ asked ends = blanks (marks asked ends)
+μ-loop site triples rule starts count up role first numbers asked₀ ends₀ asked ends = blanks (marks (lows asked) ends)
 
 loop-holds : tie.Need-loop-holds Inv-loop μ-loop
 loop-holds c = λ g. rest
@@ -25,8 +27,8 @@ loop-holds c = λ g. rest
 sweep-requires : tie.Need-sweep-requires Inv-loop μ-loop
 sweep-requires c κs =
     let pre = c .before .before .before .before .before .before .before .before .pre in
-    let (whole, asked, ends) = marks-on-fit (c .before .before .loop .inv anywhere) (pre .2, pre .3, pre .4) in
-    (pre .0, pre .1, whole, asked, ends)
+    let (whole, ends) = marks-on-fit (c .before .before .loop .inv anywhere) (pre .2, pre .3) in
+    (pre .0, pre .1, whole, ends)
 
 loop-less : tie.Need-loop-less Inv-loop μ-loop
 loop-less c = swept-fell (c .before .before .before .before .before .sweep .ensures anywhere) (c .if1 .taken)
@@ -37,7 +39,7 @@ loop-again c = let swept = c .before .before .before .before .before in λ g. ma
 same-length : tie.Need-same-length Inv-loop μ-loop
 same-length c =
     let swept = c .before .before .before .before .before in
-    marks-on-long (marks-on-then (swept .before .before .before .loop .inv anywhere) (swept .sweep .ensures anywhere .reached)) .0
+    same-long _ _ (marks-on-long (marks-on-then (swept .before .before .before .loop .inv anywhere) (swept .sweep .ensures anywhere .reached)) .0)
 
 same-length-2 : tie.Need-same-length-2 Inv-loop μ-loop
 same-length-2 c =

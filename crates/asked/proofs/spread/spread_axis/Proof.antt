@@ -11,8 +11,10 @@ use Rattle.fewest.specs.Frame.{frame}
 use Rattle.fewest.specs.Work.{workOf}
 use Rattle.fewest.proofs.Loops.{Seen, seen-none, seen-more}
 use Rattle.fewest.proofs.ByTriples.{axis-takes}
+use Rattle.fewest.specs.Lows.{lows}
 use Rattle.asked.specs.Mark.{marks, blanks, Marking}
 use Rattle.asked.proofs.Marking.{marking-chain, marking-long}
+use Rattle.asked.proofs.LowBits.{same-long}
 use Rattle.asked.proofs.Fit.{marking-fit}
 use Rattle.asked.proofs.ByMoves.{AtTriple, step-sought}
 use Rattle.asked.proofs.spread.spread_axis.Statement.{statement}
@@ -25,7 +27,7 @@ Inv-loop site triples step up role numbers asked₀ ends₀ r was more₀ k₀ a
     ((g : Goal) →
     let F = frame (siteOf site triples) up role g in
     Seen blanks (Marking F (pairs numbers) (workOf a (step .label)) r) (AtTriple F (pairs numbers) a (step .label) r) k
-    (marks asked₀ ends₀) (marks asked ends) was more)
+    (marks (lows asked₀) ends₀) (marks (lows asked) ends) was more)
 
 abbrev μ-loop : tie.MeasureT-loop
 μ-loop site triples step up role numbers asked₀ ends₀ r was more₀ k₀ asked ends more k = triples - k
@@ -37,8 +39,8 @@ seek-requires : tie.Need-seek-requires Inv-loop μ-loop
 seek-requires c κs =
     let turn = c .before .before in
     let pre = turn .before .before .before .before .before .before .pre in
-    let (whole, asked, ends) = marking-fit (turn .before .loop .inv .1 anywhere .reached) (pre .3, pre .4, pre .5) in
-    ((_, pre .0, turn .loop-test .taken), pre .1, pre .2, whole, asked, ends, pre .6, pre .7)
+    let (whole, ends) = marking-fit (turn .before .loop .inv .1 anywhere .reached) (pre .3, pre .4) in
+    ((_, pre .0, turn .loop-test .taken), pre .1, pre .2, whole, ends, pre .5, pre .6)
 
 add-k : tie.Need-add-k Inv-loop μ-loop
 add-k c = omega arith
@@ -52,11 +54,11 @@ loop-again c =
     let pre = turn .before .before .before .before .before .before .pre in (
       omega arith,
       λ g. seen-more marking-chain (turn .before .loop .inv .1 g)
-          (c .before .before .before .before .seek .ensures _ g (pre .0) (turn .loop-test .taken) (pre .8) (pre .9)),
+          (c .before .before .before .before .seek .ensures _ g (pre .0) (turn .loop-test .taken) (pre .7) (pre .8)),
     )
 
 same-length : tie.Need-same-length Inv-loop μ-loop
-same-length c = marking-long (c .before .loop .inv .1 anywhere .reached) .0
+same-length c = same-long _ _ (marking-long (c .before .loop .inv .1 anywhere .reached) .0)
 
 same-length-2 : tie.Need-same-length-2 Inv-loop μ-loop
 same-length-2 c = marking-long (c .before .loop .inv .1 anywhere .reached) .1
@@ -65,7 +67,7 @@ returns : tie.Need-returns Inv-loop μ-loop
 returns c =
     let start = c .before .before .before .before .before .before in
     let step = start .args .step in
-    λ g. step-sought (step .label) (axis-takes (step .axis) (start .pre .8)) (rw length-siteOf (c .loop-test .left)) (c .before .loop .inv .1 g)
+    λ g. step-sought (step .label) (axis-takes (step .axis) (start .pre .7)) (rw length-siteOf (c .loop-test .left)) (c .before .loop .inv .1 g)
 
 pub spread-axis-spec : {M : Type 1} → statement M
 spread-axis-spec =

@@ -14,8 +14,8 @@ enum-known-rec c = search needs
 spread-step-requires : tie.Need-spread-step-requires
 spread-step-requires c κs =
     let pre = c .before .before .before .before .before .before .before .before .before .pre in
-    let (known, tests) = rw (c .before .before .before .rec .given .1) at (pre .7) in
-    (pre .0, pre .1, pre .2, pre .3, pre .4, pre .5, pre .6, tests, known)
+    let (known, tests) = rw (c .before .before .before .rec .given .1) at (pre .6) in
+    (pre .0, pre .1, pre .2, pre .3, pre .4, pre .5, tests, known)
 
 enum-told : tie.Need-enum-told
 enum-told c = search needs
@@ -30,20 +30,19 @@ spread-row-requires-2 : tie.Need-spread-row-requires-2
 spread-row-requires-2 c κs = search needs
 
 sub-spread-row : tie.Need-sub-spread-row
-sub-spread-row c = let chosen = c .before .before .before .before .before in rw (chosen .enum-told2 .given .1) at (chosen .before .before .before .before .before .before .pre .7)
+sub-spread-row c = let chosen = c .before .before .before .before .before in rw (chosen .enum-told2 .given .1) at (chosen .before .before .before .before .before .before .pre .6)
 
 spread-row-requires-3 : tie.Need-spread-row-requires-3
 spread-row-requires-3 c κs =
     let one = c .before .before .before in
     let pre = one .before .before .before .before .before .before .before .before .pre in
-    let (whole, bits) = row-fit (λ F T ends. one .spread-row2 .ensures F T ends .reached) (pre .3) (pre .4) in
-    (whole, bits, pre .6, omega (arith, pre .6))
+    (row-fit (λ F T ends. one .spread-row2 .ensures F T ends .reached) (pre .3), pre .5, omega (arith, pre .5))
 
 enum-told-3 : tie.Need-enum-told-3
 enum-told-3 c = search needs
 
 sub-spread-row-2 : tie.Need-sub-spread-row-2
-sub-spread-row-2 c = let starred = c .before in rw (starred .enum-told3 .given .1) at (starred .before .before .before .before .before .before .pre .7)
+sub-spread-row-2 c = let starred = c .before in rw (starred .enum-told3 .given .1) at (starred .before .before .before .before .before .before .pre .6)
 
 spread-row-requires-4 : tie.Need-spread-row-requires-4
 spread-row-requires-4 c κs = search needs
@@ -52,8 +51,8 @@ spread-rests-requires : tie.Need-spread-rests-requires
 spread-rests-requires c κs =
     let one = c .before .before .before .before in
     let pre = one .before .before .before .before .before .before .before .before .pre in
-    let (whole, bits) = row-fit (λ F T ends. one .spread-row4 .ensures F T ends .reached) (pre .3) (pre .4) in
-    (pre .0, pre .1, pre .2, whole, bits, pre .5, pre .6, tt, tt)
+    let whole = row-fit (λ F T ends. one .spread-row4 .ensures F T ends .reached) (pre .3) in
+    (pre .0, pre .1, pre .2, whole, pre .4, pre .5, tt, tt)
 
 same-length : tie.Need-same-length
 same-length c = search needs

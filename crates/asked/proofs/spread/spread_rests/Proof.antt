@@ -9,9 +9,11 @@ use Rattle.fewest.specs.Pairs.{pairs}
 use Rattle.fewest.specs.Frame.{frame}
 use Rattle.fewest.specs.Offer.{Work}
 use Rattle.fewest.proofs.Loops.{Seen, seen-none, seen-more}
+use Rattle.fewest.specs.Lows.{lows}
 use Rattle.asked.specs.Mark.{marks, blanks, Marking}
 use Rattle.asked.specs.Seek.{Stay, as-step, AtEnds}
 use Rattle.asked.proofs.Marking.{marking-chain, marking-long}
+use Rattle.asked.proofs.LowBits.{same-long}
 use Rattle.asked.proofs.Fit.{marking-fit}
 use Rattle.asked.proofs.ByMoves.{rests-sought}
 use Rattle.asked.proofs.spread.spread_rests.Statement.{statement}
@@ -22,7 +24,7 @@ Inv-loop site triples up role numbers asked₀ ends₀ label r was more₀ k₀ 
     (k ≤ triples) ×
     ((w : Work) (g : Goal) → Stay label w →
     let F = frame (siteOf site triples) up role g in
-    Seen blanks (Marking F (pairs numbers) w r) (AtEnds F (pairs numbers) label r) k (marks asked₀ ends₀) (marks asked ends) was more)
+    Seen blanks (Marking F (pairs numbers) w r) (AtEnds F (pairs numbers) label r) k (marks (lows asked₀) ends₀) (marks (lows asked) ends) was more)
 
 abbrev μ-loop : tie.MeasureT-loop
 μ-loop site triples up role numbers asked₀ ends₀ label r was more₀ k₀ asked ends more k = triples - k
@@ -34,8 +36,8 @@ rest-by-requires : tie.Need-rest-by-requires Inv-loop μ-loop
 rest-by-requires c κs =
     let turn = c .before .before in
     let pre = turn .before .before .before .before .before .before .pre in
-    let (whole, asked, ends) = marking-fit (turn .before .loop .inv .1 _ anywhere as-step .reached) (pre .3, pre .4, pre .5) in
-    ((_, pre .0, turn .loop-test .taken), pre .1, pre .2, whole, asked, ends, pre .6, pre .7)
+    let (whole, ends) = marking-fit (turn .before .loop .inv .1 _ anywhere as-step .reached) (pre .3, pre .4) in
+    ((_, pre .0, turn .loop-test .taken), pre .1, pre .2, whole, ends, pre .5, pre .6)
 
 add-k : tie.Need-add-k Inv-loop μ-loop
 add-k c = omega arith
@@ -53,7 +55,7 @@ loop-again c =
     )
 
 same-length : tie.Need-same-length Inv-loop μ-loop
-same-length c = marking-long (c .before .loop .inv .1 _ anywhere as-step .reached) .0
+same-length c = same-long _ _ (marking-long (c .before .loop .inv .1 _ anywhere as-step .reached) .0)
 
 same-length-2 : tie.Need-same-length-2 Inv-loop μ-loop
 same-length-2 c = marking-long (c .before .loop .inv .1 _ anywhere as-step .reached) .1
@@ -61,7 +63,7 @@ same-length-2 c = marking-long (c .before .loop .inv .1 _ anywhere as-step .reac
 returns : tie.Need-returns Inv-loop μ-loop
 returns c =
     let pre = c .before .before .before .before .before .before .pre in
-    λ w g stay. rests-sought (rw length-siteOf (c .loop-test .left)) (pre .8) stay (c .before .loop .inv .1 w g stay)
+    λ w g stay. rests-sought (rw length-siteOf (c .loop-test .left)) (pre .7) stay (c .before .loop .inv .1 w g stay)
 
 pub spread-rests-spec : {M : Type 1} → statement M
 spread-rests-spec =

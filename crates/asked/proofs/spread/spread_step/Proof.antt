@@ -28,8 +28,8 @@ enum-known-label c = search needs
 rest-requires : tie.Need-rest-requires
 rest-requires c κs =
     let pre = c .before .before .before .before .before .before .before .before .before .before .before .pre in
-    let name = rw (c .before .before .before .label .given .1) at (pre .7) in
-    (pre .1, pre .2, pre .3, pre .4, pre .5, pre .6, name, name)
+    let name = rw (c .before .before .before .label .given .1) at (pre .6) in
+    (pre .1, pre .2, pre .3, pre .4, pre .5, name, name)
 
 same-length-3 : tie.Need-same-length-3
 same-length-3 c = search needs
@@ -48,7 +48,7 @@ spread-rests-requires c κs =
     let other = c .before .before in
     let start = other .before .before .before .before .before .before .before in
     let pre = start .pre in
-    (pre .0, pre .1, pre .2, pre .3, pre .4, pre .5, pre .6, pre .7, nameless (start .args .step .label) (other .match .keys2))
+    (pre .0, pre .1, pre .2, pre .3, pre .4, pre .5, pre .6, nameless (start .args .step .label) (other .match .keys2))
 
 same-length-5 : tie.Need-same-length-5
 same-length-5 c = search needs

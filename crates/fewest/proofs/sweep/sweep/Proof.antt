@@ -1,21 +1,117 @@
--- `fewest::sweep::sweep` meets its contract: every record stands under the whole rule, where the sweep begins.
+-- `fewest::sweep::sweep` meets its contract: each turn sees one record of the rule.
+-- The measure is what is left of the records.
+use Prim.Native.Nat.{_≤_, _-_}
+use mathlib.Core.Path.{_≡_, _∙_, ap}
+use mathlib.Core.Bool.{false}
+use native.Mathlib.Omega.{arith}
+use lib.ListN.{length}
 use borrow.Author.Needs.{needs}
-use Rattle.fewest.proofs.ByRecords.{all-swept}
-use Rattle.fewest.proofs.Readiness.{ready-whole}
+use Rattle.meaning.specs.Limits.{records}
+use Rattle.records.specs.Sites.{siteOf}
+use Rattle.records.specs.Rules.{recOf, recordsOf}
+use Rattle.fewest.specs.Pairs.{pairs}
+use Rattle.fewest.specs.Frame.{frame}
+use Rattle.fewest.specs.Offer.{Settles}
+use Rattle.fewest.specs.Sweep.{sum}
+use Rattle.fewest.specs.Table.{Full}
+use Rattle.fewest.specs.Work.{goalOf}
+use Rattle.fewest.proofs.Sweeps.{settles-chain}
+use Rattle.fewest.proofs.Loops.{Seen, seen-none, seen-more}
+use Rattle.fewest.proofs.ByRecords.{RecordQuiet, record-swept, all-swept}
 use Rattle.fewest.proofs.sweep.sweep.Statement.{statement}
 use Rattle.fewest.proofs.sweep.sweep.Tie as tie
 
-sub-sweep-under : tie.Need-sub-sweep-under
-sub-sweep-under c = search needs
+abbrev Inv-loop : tie.InvT-loop
+Inv-loop site scratch triples rule starts count up role first goal numbers₀ changed₀ r₀ numbers changed r =
+    let F = frame (siteOf site triples) up role (goalOf goal) in
+    (r ≤ count) × (length numbers ≡ length numbers₀) ×
+    Seen sum (Settles F (recordsOf rule) first) (RecordQuiet F (recordsOf rule) first) r (pairs numbers₀) (pairs numbers) false changed
 
-sweep-under-requires : tie.Need-sweep-under-requires
-sweep-under-requires c κs = let (ready, full) = c .before .before .before .before .pre in (ready-whole ready, full)
+abbrev μ-loop : tie.MeasureT-loop
+μ-loop site scratch triples rule starts count up role first goal numbers₀ changed₀ r₀ numbers changed r = count - r
 
-same-length : tie.Need-same-length
-same-length c = search needs
+loop-holds : tie.Need-loop-holds Inv-loop μ-loop
+loop-holds c = (omega arith, omega arith, seen-none settles-chain)
 
-returns : tie.Need-returns
-returns c = let ready = c .before .before .before .before .before .before .before .pre .0 in all-swept (ready .counted) (ready .tree) (c .before .before .sweep-under .ensures)
+mul-record-at : tie.Need-mul-record-at Inv-loop μ-loop
+unfolding records
+mul-record-at c = let few = c .before .before .before .before .before .before .pre .0 .few in omega arith
+
+element-copy-out-record-at : tie.Need-element-copy-out-record-at Inv-loop μ-loop
+unfolding records
+element-copy-out-record-at c = let few = c .before .before .before .before .before .before .pre .0 .few in omega arith
+
+record-at-requires : tie.Need-record-at-requires Inv-loop μ-loop
+record-at-requires c κs = search needs
+
+element-copy-out-operand : tie.Need-element-copy-out-operand Inv-loop μ-loop
+unfolding records
+element-copy-out-operand c = let few = c .before .before .before .before .before .before .before .before .pre .0 .few in omega arith
+
+cast-operand : tie.Need-cast-operand Inv-loop μ-loop
+unfolding records
+cast-operand c =
+    let turn = c .before .before .before in
+    let small = turn .before .before .before .before .before .before .pre .0 .firsts (turn .before .loop .r) (turn .loop-test .taken) in
+    omega arith
+
+sweep-record-requires : tie.Need-sweep-record-requires Inv-loop μ-loop
+unfolding Full
+sweep-record-requires c κs =
+    let turn = c .before .before .before .before in
+    let (ready, full) = turn .before .before .before .before .before .before .pre in
+    let at = turn .before .loop in
+    let few = ready .few in (
+      ready .good,
+      at .inv .1 ∙ full,
+      ready .climbs,
+      omega arith,
+      rw (c .before .before .record-at .ensures) (ready .sits (at .r) (turn .loop-test .taken)),
+      ready .firsts (at .r) (turn .loop-test .taken),
+    )
+
+add-r : tie.Need-add-r Inv-loop μ-loop
+add-r c = omega arith
+
+loop-less : tie.Need-loop-less Inv-loop μ-loop
+loop-less c = omega arith
+
+loop-again : tie.Need-loop-again Inv-loop μ-loop
+loop-again c =
+    let turn = c .before .before .before .before .before .before .before in
+    let ready = turn .before .before .before .before .before .before .pre .0 in
+    let at = turn .before .loop in (
+      omega arith,
+      c .before .before .sweep-record .kept .1 .1 .1 .1 .1 .1 .1 .1 .0 ∙ at .inv .1,
+      seen-more settles-chain (at .inv .2)
+          (record-swept (rw (← ready .counted) (turn .loop-test .taken))
+          (ap recOf (c .before .before .before .before .before .record-at .ensures) ∙ ready .reads (at .r) (turn .loop-test .taken))
+          (c .before .before .sweep-record .ensures)),
+    )
+
+same-length : tie.Need-same-length Inv-loop μ-loop
+same-length c = omega arith
+
+returns : tie.Need-returns Inv-loop μ-loop
+returns c =
+    let counted = c .before .before .before .before .before .before .pre .0 .counted in
+    all-swept (omega arith) (c .before .loop .inv .2)
 
 pub sweep-spec : {M : Type 1} → statement M
-sweep-spec = tie.close (tie.spec sub-sweep-under sweep-under-requires same-length returns)
+sweep-spec =
+    tie.close
+    (tie.spec
+    Inv-loop
+    μ-loop
+    loop-holds
+    mul-record-at
+    element-copy-out-record-at
+    record-at-requires
+    element-copy-out-operand
+    cast-operand
+    sweep-record-requires
+    add-r
+    loop-less
+    loop-again
+    same-length
+    returns)

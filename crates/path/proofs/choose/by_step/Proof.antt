@@ -1,6 +1,6 @@
--- `path::choose::by_step` meets its contract: axis 0 is self, and every other takes triples.
+-- `path::choose::by_step` meets its contract: axis 0 is self, and every other takes triples; 1 and 3 begin at the subject.
 use borrow.Author.Needs.{needs}
-use Rattle.path.proofs.Carrying.{stays-put}
+use Rattle.path.proofs.Carrying.{stays-put, next-subject, edge-subject}
 use Rattle.path.proofs.choose.by_step.Statement.{statement}
 use Rattle.path.proofs.choose.by_step.Tie as tie
 
@@ -10,11 +10,37 @@ by-self-requires c κs = search needs
 returns : tie.Need-returns
 returns c = rw (stays-put _ (c .before .if1 .taken)) (c .by-self .ensures _ (c .before .before .before .before .pre .7))
 
-by-triple-requires : tie.Need-by-triple-requires
-by-triple-requires c κs = search needs
+by-subject-requires : tie.Need-by-subject-requires
+by-subject-requires c κs =
+    let pre = c .before .before .before .before .pre in
+    (pre .0, pre .1, pre .2, pre .3, pre .4, c .before .if1 .left, pre .5, next-subject _ (c .if2 .taken))
 
 returns-2 : tie.Need-returns-2
 returns-2 c = search needs
 
+by-subject-requires-2 : tie.Need-by-subject-requires-2
+by-subject-requires-2 c κs =
+    let pre = c .before .before .before .before .before .pre in
+    (pre .0, pre .1, pre .2, pre .3, pre .4, c .before .before .if1 .left, pre .5, edge-subject _ (c .if3 .taken))
+
+returns-3 : tie.Need-returns-3
+returns-3 c = search needs
+
+by-triple-requires : tie.Need-by-triple-requires
+by-triple-requires c κs = search needs
+
+returns-4 : tie.Need-returns-4
+returns-4 c = search needs
+
 pub by-step-spec : {M : Type 1} → statement M
-by-step-spec = tie.close (tie.spec by-self-requires returns by-triple-requires returns-2)
+by-step-spec =
+    tie.close
+    (tie.spec
+    by-self-requires
+    returns
+    by-subject-requires
+    returns-2
+    by-subject-requires-2
+    returns-3
+    by-triple-requires
+    returns-4)

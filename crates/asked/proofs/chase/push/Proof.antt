@@ -1,0 +1,62 @@
+-- `asked::chase::push` meets its contract: only cells are stored.
+use mathlib.Core.Path.{_∙_}
+use native.Mathlib.Omega.{arith}
+use borrow.Author.Needs.{needs}
+use Rattle.meaning.specs.Limits.{terms}
+use Rattle.asked.proofs.chase.push.Statement.{statement}
+use Rattle.asked.proofs.chase.push.Tie as tie
+
+returns : tie.Need-returns
+returns c = search needs
+
+add-cell : tie.Need-add-cell
+unfolding terms
+add-cell c = omega arith
+
+cell-requires : tie.Need-cell-requires
+cell-requires c κs = search needs
+
+same-length : tie.Need-same-length
+same-length c = search needs
+
+returns-2 : tie.Need-returns-2
+returns-2 c = search needs
+
+add-put-cell : tie.Need-add-put-cell
+unfolding terms
+add-put-cell c = omega arith
+
+put-cell-requires : tie.Need-put-cell-requires
+put-cell-requires c κs = search needs
+
+add-put-cell-2 : tie.Need-add-put-cell-2
+add-put-cell-2 c = search needs
+
+put-cell-requires-2 : tie.Need-put-cell-requires-2
+put-cell-requires-2 c κs = search needs
+
+add-result : tie.Need-add-result
+add-result c = search needs
+
+same-length-2 : tie.Need-same-length-2
+same-length-2 c = search needs
+
+returns-3 : tie.Need-returns-3
+returns-3 c = c .before .before .put-cell2 .ensures ∙ c .before .before .before .before .before .before .put-cell .ensures
+
+pub push-spec : {M : Type 1} → statement M
+push-spec =
+    tie.close
+    (tie.spec
+    returns
+    add-cell
+    cell-requires
+    same-length
+    returns-2
+    add-put-cell
+    put-cell-requires
+    add-put-cell-2
+    put-cell-requires-2
+    add-result
+    same-length-2
+    returns-3)

@@ -1,0 +1,42 @@
+-- `asked::chase::rest_on` meets its contract: what the look marked stays marked where the term is queued.
+use borrow.Author.Needs.{needs}
+use Rattle.asked.proofs.Chasing.{rested-chased}
+use Rattle.asked.proofs.chase.rest_on.Statement.{statement}
+use Rattle.asked.proofs.chase.rest_on.Tie as tie
+
+rest-requires : tie.Need-rest-requires
+rest-requires c κs = search needs
+
+push-requires : tie.Need-push-requires
+push-requires c κs = search needs
+
+same-length : tie.Need-same-length
+same-length c = search needs
+
+same-length-2 : tie.Need-same-length-2
+same-length-2 c = search needs
+
+returns : tie.Need-returns
+returns c = rw (c .before .before .push .ensures) (rested-chased (c .before .before .before .before .before .before .before .before .before .rest .ensures))
+
+same-length-3 : tie.Need-same-length-3
+same-length-3 c = search needs
+
+same-length-4 : tie.Need-same-length-4
+same-length-4 c = search needs
+
+returns-2 : tie.Need-returns-2
+returns-2 c = rested-chased (c .before .before .before .before .before .rest .ensures)
+
+pub rest-on-spec : {M : Type 1} → statement M
+rest-on-spec =
+    tie.close
+    (tie.spec
+    rest-requires
+    push-requires
+    same-length
+    same-length-2
+    returns
+    same-length-3
+    same-length-4
+    returns-2)

@@ -1,0 +1,79 @@
+-- `fewest::levels::level` meets its contract: term after term of the list.
+-- The measure is what is left of it.
+use Prim.Native.Nat.{_-_}
+use mathlib.Core.Path.{_≡_, refl, _∙_}
+use lib.ListN.{length}
+use Rattle.fewest.specs.Work.{goalOf, Hinted}
+use Rattle.fewest.proofs.Hints.{hinted-none, hinted-then, hinted-full}
+use borrow.Author.Needs.{needs}
+use native.Mathlib.Omega.{arith}
+use Rattle.fewest.proofs.levels.level.Statement.{statement}
+use Rattle.fewest.proofs.levels.level.Tie as tie
+
+abbrev Inv-loop : tie.InvT-loop
+Inv-loop site triples rule starts count up role first goal scratch₀ numbers₀ hints steps side len next₀ i₀ scratch numbers next i =
+    Hinted site triples rule up role first (goalOf goal) numbers₀ numbers × (length scratch ≡ length scratch₀)
+
+abbrev μ-loop : tie.MeasureT-loop
+μ-loop site triples rule starts count up role first goal scratch₀ numbers₀ hints steps side len next₀ i₀ scratch numbers next i = len - i
+
+loop-holds : tie.Need-loop-holds Inv-loop μ-loop
+loop-holds c = (hinted-none, refl)
+
+mul-set-at : tie.Need-mul-set-at Inv-loop μ-loop
+mul-set-at c = omega arith
+
+add-set-at : tie.Need-add-set-at Inv-loop μ-loop
+add-set-at c = omega arith
+
+add-set-at-2 : tie.Need-add-set-at-2 Inv-loop μ-loop
+add-set-at-2 c = omega arith
+
+set-at-requires : tie.Need-set-at-requires Inv-loop μ-loop
+set-at-requires c κs = search needs
+
+take-term-requires : tie.Need-take-term-requires Inv-loop μ-loop
+take-term-requires c κs =
+    let head = c .before .before .before .before .before in
+    let pre = head .before .before .before .before .before .before .pre in
+    (pre .0, hinted-full (head .loop .inv .0) (pre .1))
+
+add-i : tie.Need-add-i Inv-loop μ-loop
+add-i c = omega arith
+
+loop-less : tie.Need-loop-less Inv-loop μ-loop
+loop-less c = omega arith
+
+loop-again : tie.Need-loop-again Inv-loop μ-loop
+loop-again c =
+    let after-take-term = c .before .before .before .before in
+    let head = after-take-term .before .before .before .before .before .before in
+    (hinted-then (head .loop .inv .0) (after-take-term .take-term .ensures), after-take-term .take-term .kept .1 .1 .1 .1 .1 .1 .1 .1 .1 .0 ∙ head .loop .inv .1)
+
+same-length : tie.Need-same-length Inv-loop μ-loop
+same-length c = c .before .loop .inv .1
+
+same-length-2 : tie.Need-same-length-2 Inv-loop μ-loop
+same-length-2 c = c .before .loop .inv .0 .long
+
+returns : tie.Need-returns Inv-loop μ-loop
+returns c = c .before .loop .inv .0
+
+pub level-spec : {M : Type 1} → statement M
+level-spec =
+    tie.close
+    (tie.spec
+    Inv-loop
+    μ-loop
+    loop-holds
+    mul-set-at
+    add-set-at
+    add-set-at-2
+    set-at-requires
+    take-term-requires
+    add-i
+    loop-less
+    loop-again
+    same-length
+    same-length-2
+    returns)

@@ -1,0 +1,119 @@
+-- `fewest::levels::open` meets its contract: its places stand behind the threads.
+use Rattle.meaning.specs.Limits.{terms}
+use borrow.Author.Needs.{needs}
+use native.Mathlib.Omega.{arith}
+use Rattle.fewest.proofs.levels.open.Statement.{statement}
+use Rattle.fewest.proofs.levels.open.Tie as tie
+
+add-set-at : tie.Need-add-set-at
+unfolding terms
+add-set-at c = omega (arith, c .before .before .pre)
+
+set-at-requires : tie.Need-set-at-requires
+set-at-requires c κs = search needs
+
+less-requires : tie.Need-less-requires
+less-requires c κs = search needs
+
+same-length : tie.Need-same-length
+same-length c = search needs
+
+returns : tie.Need-returns
+returns c = search needs
+
+mul-set-at : tie.Need-mul-set-at
+mul-set-at c = search needs
+
+add-set-at-2 : tie.Need-add-set-at-2
+add-set-at-2 c = search needs
+
+add-set-at-3 : tie.Need-add-set-at-3
+unfolding terms
+add-set-at-3 c = omega (arith, c .before .before .before .before .before .before .pre)
+
+set-at-requires-2 : tie.Need-set-at-requires-2
+set-at-requires-2 c κs = search needs
+
+add-put-set : tie.Need-add-put-set
+unfolding terms
+add-put-set c = omega (arith, c .before .before .before .before .before .before .before .before .pre)
+
+put-set-requires : tie.Need-put-set-requires
+put-set-requires c κs = search needs
+
+mul-put-set : tie.Need-mul-put-set
+mul-put-set c = search needs
+
+add-put-set-2 : tie.Need-add-put-set-2
+add-put-set-2 c = search needs
+
+add-put-set-3 : tie.Need-add-put-set-3
+unfolding terms
+add-put-set-3 c = omega (arith, c .before .before .before .before .before .before .before .before .before .before .before .before .pre)
+
+put-set-requires-2 : tie.Need-put-set-requires-2
+put-set-requires-2 c κs = search needs
+
+same-length-2 : tie.Need-same-length-2
+same-length-2 c = search needs
+
+returns-2 : tie.Need-returns-2
+returns-2 c = search needs
+
+same-length-3 : tie.Need-same-length-3
+same-length-3 c = search needs
+
+returns-3 : tie.Need-returns-3
+returns-3 c = search needs
+
+mul-put-set-2 : tie.Need-mul-put-set-2
+mul-put-set-2 c = search needs
+
+add-put-set-4 : tie.Need-add-put-set-4
+add-put-set-4 c = search needs
+
+add-put-set-5 : tie.Need-add-put-set-5
+add-put-set-5 c = search needs
+
+put-set-requires-3 : tie.Need-put-set-requires-3
+put-set-requires-3 c κs = search needs
+
+add-result : tie.Need-add-result
+add-result c = search needs
+
+same-length-4 : tie.Need-same-length-4
+same-length-4 c = search needs
+
+returns-4 : tie.Need-returns-4
+returns-4 c = search needs
+
+pub open-spec : {M : Type 1} → statement M
+open-spec =
+    tie.close
+    (tie.spec
+    add-set-at
+    set-at-requires
+    less-requires
+    same-length
+    returns
+    mul-set-at
+    add-set-at-2
+    add-set-at-3
+    set-at-requires-2
+    add-put-set
+    put-set-requires
+    mul-put-set
+    add-put-set-2
+    add-put-set-3
+    put-set-requires-2
+    same-length-2
+    returns-2
+    same-length-3
+    returns-3
+    mul-put-set-2
+    add-put-set-4
+    add-put-set-5
+    put-set-requires-3
+    add-result
+    same-length-4
+    returns-4)

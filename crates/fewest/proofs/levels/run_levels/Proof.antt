@@ -1,0 +1,80 @@
+-- `fewest::levels::run_levels` meets its contract: level after level.
+-- The measure is what is left of the number of entries.
+use Prim.Native.Nat.{_*_, _-_}
+use mathlib.Core.Path.{_≡_, refl, _∙_}
+use lib.ListN.{length}
+use Rattle.meaning.specs.Limits.{terms, records}
+use Rattle.fewest.specs.Work.{goalOf, Hinted}
+use Rattle.fewest.proofs.Hints.{hinted-none, hinted-then, hinted-full}
+use native.Mathlib.Omega.{arith}
+use Rattle.fewest.proofs.levels.run_levels.Statement.{statement}
+use Rattle.fewest.proofs.levels.run_levels.Tie as tie
+
+abbrev Inv-loop : tie.InvT-loop
+Inv-loop site triples rule starts count up role first goal scratch₀ numbers₀ hints steps begun len₀ side₀ scratch numbers len side =
+    Hinted site triples rule up role first (goalOf goal) numbers₀ numbers × (length scratch ≡ length scratch₀)
+
+abbrev μ-loop : tie.MeasureT-loop
+μ-loop site triples rule starts count up role first goal scratch₀ numbers₀ hints steps begun len₀ side₀ scratch numbers len side = records * terms - side
+
+loop-holds : tie.Need-loop-holds Inv-loop μ-loop
+loop-holds c = (hinted-none, refl)
+
+mul-if1 : tie.Need-mul-if1 Inv-loop μ-loop
+mul-if1 c = omega arith
+
+same-length : tie.Need-same-length Inv-loop μ-loop
+same-length c = c .before .before .loop .inv .1
+
+same-length-2 : tie.Need-same-length-2 Inv-loop μ-loop
+same-length-2 c = c .before .before .loop .inv .0 .long
+
+returns : tie.Need-returns Inv-loop μ-loop
+returns c = c .before .before .loop .inv .0
+
+level-requires : tie.Need-level-requires Inv-loop μ-loop
+level-requires c κs =
+    let head = c .before .before .before .before in
+    let pre = head .before .before .before .before .before .before .pre in
+    (pre .0, hinted-full (head .loop .inv .0) (pre .1))
+
+add-side : tie.Need-add-side Inv-loop μ-loop
+add-side c = omega arith
+
+loop-less : tie.Need-loop-less Inv-loop μ-loop
+unfolding terms records
+loop-less c = omega arith
+
+loop-again : tie.Need-loop-again Inv-loop μ-loop
+loop-again c =
+    let after-level = c .before .before .before .before in
+    let head = after-level .before .before .before .before .before in
+    (hinted-then (head .loop .inv .0) (after-level .level .ensures), after-level .level .kept .1 .1 .1 .1 .1 .1 .1 .1 .1 .0 ∙ head .loop .inv .1)
+
+same-length-3 : tie.Need-same-length-3 Inv-loop μ-loop
+same-length-3 c = c .before .loop .inv .1
+
+same-length-4 : tie.Need-same-length-4 Inv-loop μ-loop
+same-length-4 c = c .before .loop .inv .0 .long
+
+returns-2 : tie.Need-returns-2 Inv-loop μ-loop
+returns-2 c = c .before .loop .inv .0
+
+pub run-levels-spec : {M : Type 1} → statement M
+run-levels-spec =
+    tie.close
+    (tie.spec
+    Inv-loop
+    μ-loop
+    loop-holds
+    mul-if1
+    same-length
+    same-length-2
+    returns
+    level-requires
+    add-side
+    loop-less
+    loop-again
+    same-length-3
+    same-length-4
+    returns-2)

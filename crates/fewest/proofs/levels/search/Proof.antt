@@ -1,0 +1,44 @@
+-- `fewest::levels::search` meets its contract: where the body may finish, and then level after level.
+use Rattle.fewest.proofs.Hints.{hinted-then, hinted-full}
+use borrow.Author.Needs.{needs}
+use Rattle.fewest.proofs.levels.search.Statement.{statement}
+use Rattle.fewest.proofs.levels.search.Tie as tie
+
+prepare-requires : tie.Need-prepare-requires
+prepare-requires c κs = search needs
+
+begin-body-requires : tie.Need-begin-body-requires
+begin-body-requires c κs = search needs
+
+run-levels-requires : tie.Need-run-levels-requires
+run-levels-requires c κs =
+    let after-begin-body = c .before .before .before .before .before .before .before .before in
+    let pre = after-begin-body .before .before .before .before .before .before .before .before .before .before .before .before .before .before .before .before .before .before .pre in
+    (pre .0, hinted-full (after-begin-body .begin-body .ensures) (pre .1))
+
+same-length : tie.Need-same-length
+same-length c = search needs
+
+same-length-2 : tie.Need-same-length-2
+same-length-2 c = search needs
+
+same-length-3 : tie.Need-same-length-3
+same-length-3 c = search needs
+
+returns : tie.Need-returns
+returns c =
+    let after-run-levels = c .before .before .before .before in
+    hinted-then (after-run-levels .before .before .before .before .before .before .before .before .before .begin-body .ensures)
+    (after-run-levels .run-levels .ensures)
+
+pub search-spec : {M : Type 1} → statement M
+search-spec =
+    tie.close
+    (tie.spec
+    prepare-requires
+    begin-body-requires
+    run-levels-requires
+    same-length
+    same-length-2
+    same-length-3
+    returns)

@@ -1,0 +1,76 @@
+-- `fewest::levels::take_all` meets its contract: triple after triple of a thread, which goes up.
+-- The measure is what is left of the triples.
+use Prim.Native.Nat.{_-_}
+use mathlib.Core.Path.{_≡_, refl, _∙_}
+use lib.ListN.{length}
+use Rattle.fewest.specs.Work.{goalOf, Hinted}
+use Rattle.fewest.proofs.Hints.{hinted-none, hinted-then, hinted-full}
+use borrow.Author.Needs.{needs}
+use native.Mathlib.Omega.{arith}
+use Rattle.fewest.proofs.levels.take_all.Statement.{statement}
+use Rattle.fewest.proofs.levels.take_all.Tie as tie
+
+abbrev Inv-loop : tie.InvT-loop
+Inv-loop site triples rule starts count up role first goal scratch₀ numbers₀ hints steps step r u side was axis len₀ k₀ scratch numbers len k =
+    Hinted site triples rule up role first (goalOf goal) numbers₀ numbers × (length scratch ≡ length scratch₀)
+
+abbrev μ-loop : tie.MeasureT-loop
+μ-loop site triples rule starts count up role first goal scratch₀ numbers₀ hints steps step r u side was axis len₀ k₀ scratch numbers len k = triples - k
+
+first-to-requires : tie.Need-first-to-requires Inv-loop μ-loop
+first-to-requires c κs = search needs
+
+loop-holds : tie.Need-loop-holds Inv-loop μ-loop
+loop-holds c = (hinted-none, refl)
+
+take-requires : tie.Need-take-requires Inv-loop μ-loop
+take-requires c κs =
+    let turn = c .before .before in
+    let head = turn .before in
+    let pre = head .before .before .before .before .before .before .before .before .pre in
+    (pre .0, hinted-full (head .loop .inv .0) (pre .1), pre .2, turn .loop-test .taken, pre .4, pre .5)
+
+inverse-requires : tie.Need-inverse-requires Inv-loop μ-loop
+inverse-requires c κs = search needs
+
+next-from-requires : tie.Need-next-from-requires Inv-loop μ-loop
+next-from-requires c κs =
+    let turn = c .before .before .before .before .before .before .before .before .before in
+    (turn .before .before .before .before .before .before .before .before .before .pre .0 .good, turn .loop-test .taken)
+
+loop-less : tie.Need-loop-less Inv-loop μ-loop
+loop-less c =
+    omega
+    (arith, c .next-from .ensures, c .before .before .before .before .before .before .before .before .before .before .loop-test .taken)
+
+loop-again : tie.Need-loop-again Inv-loop μ-loop
+loop-again c =
+    let after-take = c .before .before .before .before .before .before .before in
+    let head = after-take .before .before .before .before in
+    (hinted-then (head .loop .inv .0) (after-take .take .ensures), after-take .take .kept .1 .1 .1 .1 .1 .1 .1 .1 .1 .0 ∙ head .loop .inv .1)
+
+same-length : tie.Need-same-length Inv-loop μ-loop
+same-length c = c .before .loop .inv .1
+
+same-length-2 : tie.Need-same-length-2 Inv-loop μ-loop
+same-length-2 c = c .before .loop .inv .0 .long
+
+returns : tie.Need-returns Inv-loop μ-loop
+returns c = c .before .loop .inv .0
+
+pub take-all-spec : {M : Type 1} → statement M
+take-all-spec =
+    tie.close
+    (tie.spec
+    Inv-loop
+    μ-loop
+    first-to-requires
+    loop-holds
+    take-requires
+    inverse-requires
+    next-from-requires
+    loop-less
+    loop-again
+    same-length
+    same-length-2
+    returns)

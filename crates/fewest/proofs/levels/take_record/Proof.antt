@@ -1,0 +1,82 @@
+-- `fewest::levels::take_record` meets its contract: a step is taken, and nothing else.
+use mathlib.Core.Path.{sym, _∙_}
+use Rattle.meaning.specs.Limits.{records}
+use Rattle.fewest.specs.Work.{Stepping}
+use Rattle.fewest.proofs.Hints.{hinted-none}
+use borrow.Author.Needs.{needs}
+use native.Mathlib.Omega.{arith}
+use Rattle.fewest.proofs.levels.take_record.Statement.{statement}
+use Rattle.fewest.proofs.levels.take_record.Tie as tie
+
+returns : tie.Need-returns
+returns c = hinted-none
+
+mul-record-at : tie.Need-mul-record-at
+unfolding records
+mul-record-at c = let few = c .before .before .before .before .before .before .pre .0 .few in omega (arith, c .if1 .left)
+
+element-copy-out-record-at : tie.Need-element-copy-out-record-at
+unfolding records
+element-copy-out-record-at c = let few = c .before .before .before .before .before .before .pre .0 .few in omega (arith, c .if1 .left)
+
+record-at-requires : tie.Need-record-at-requires
+record-at-requires c κs = search needs
+
+enum-known-step : tie.Need-enum-known-step
+enum-known-step c = search needs
+
+take-step-requires : tie.Need-take-step-requires
+unfolding Stepping
+take-step-requires c κs =
+    let after-step = c .before .before .before in
+    let after-record-at = after-step .before .before in
+    let else-1 = after-record-at .before .before in
+    let pre = else-1 .before .before .before .before .before .before .pre in
+    (pre .0, pre .1, else-1 .if1 .left, pre .2, sym (after-record-at .record-at .ensures) ∙ after-step .step .given .1)
+
+enum-told : tie.Need-enum-told
+enum-told c = search needs
+
+enum-told-2 : tie.Need-enum-told-2
+enum-told-2 c = search needs
+
+enum-told-3 : tie.Need-enum-told-3
+enum-told-3 c = search needs
+
+same-length : tie.Need-same-length
+same-length c = search needs
+
+same-length-2 : tie.Need-same-length-2
+same-length-2 c = search needs
+
+returns-2 : tie.Need-returns-2
+returns-2 c = search needs
+
+returns-3 : tie.Need-returns-3
+returns-3 c = hinted-none
+
+returns-4 : tie.Need-returns-4
+returns-4 c = hinted-none
+
+returns-5 : tie.Need-returns-5
+returns-5 c = hinted-none
+
+pub take-record-spec : {M : Type 1} → statement M
+take-record-spec =
+    tie.close
+    (tie.spec
+    returns
+    mul-record-at
+    element-copy-out-record-at
+    record-at-requires
+    enum-known-step
+    take-step-requires
+    enum-told
+    enum-told-2
+    enum-told-3
+    same-length
+    same-length-2
+    returns-2
+    returns-3
+    returns-4
+    returns-5)

@@ -1,0 +1,80 @@
+-- `fewest::levels::take_set` meets its contract: each turn takes the lowest bit away.
+-- The measure is the set that is left.
+use Prim.Native.Nat.{_-_}
+use mathlib.Core.Path.{_≡_, refl, _∙_}
+use lib.ListN.{length}
+use lib.Count.{trailing-le}
+use lib.Bits.{and-le-r}
+use Rattle.fewest.specs.Work.{goalOf, Hinted}
+use Rattle.fewest.proofs.Hints.{hinted-none, hinted-then, hinted-full}
+use borrow.Author.Needs.{needs}
+use native.Mathlib.Omega.{arith}
+use Rattle.fewest.proofs.levels.take_set.Statement.{statement}
+use Rattle.fewest.proofs.levels.take_set.Tie as tie
+
+abbrev Inv-loop : tie.InvT-loop
+Inv-loop site triples rule starts count up role first goal scratch₀ numbers₀ hints steps set u side was len₀ rest₀ scratch numbers len rest =
+    Hinted site triples rule up role first (goalOf goal) numbers₀ numbers × (length scratch ≡ length scratch₀)
+
+abbrev μ-loop : tie.MeasureT-loop
+μ-loop site triples rule starts count up role first goal scratch₀ numbers₀ hints steps set u side was len₀ rest₀ scratch numbers len rest = rest
+
+loop-holds : tie.Need-loop-holds Inv-loop μ-loop
+loop-holds c = (hinted-none, refl)
+
+cast-bit : tie.Need-cast-bit Inv-loop μ-loop
+cast-bit c = omega (arith, trailing-le 64 (c .before .loop .rest))
+
+sub-rest : tie.Need-sub-rest Inv-loop μ-loop
+sub-rest c = omega (arith, c .loop-test .taken)
+
+element-copy-out-wide : tie.Need-element-copy-out-wide Inv-loop μ-loop
+element-copy-out-wide c = omega arith
+
+wide-requires : tie.Need-wide-requires Inv-loop μ-loop
+wide-requires c κs = search needs
+
+take-record-requires : tie.Need-take-record-requires Inv-loop μ-loop
+take-record-requires c κs =
+    let head = c .before .before .before .before .before in
+    let pre = head .before .before .before .before .before .before .pre in
+    (pre .0, hinted-full (head .loop .inv .0) (pre .1), pre .2)
+
+loop-less : tie.Need-loop-less Inv-loop μ-loop
+loop-less c =
+    let turn = c .before .before .before .before .before .before .before .before .before in
+    let head = turn .before in
+    omega (arith, turn .loop-test .taken, and-le-r (head .loop .rest) (head .loop .rest - 1))
+
+loop-again : tie.Need-loop-again Inv-loop μ-loop
+loop-again c =
+    let after-take-record = c .before .before .before .before in
+    let head = after-take-record .before .before .before .before .before .before in
+    (hinted-then (head .loop .inv .0) (after-take-record .take-record .ensures), after-take-record .take-record .kept .1 .1 .1 .1 .1 .1 .1 .1 .1 .0 ∙ head .loop .inv .1)
+
+same-length : tie.Need-same-length Inv-loop μ-loop
+same-length c = c .before .loop .inv .1
+
+same-length-2 : tie.Need-same-length-2 Inv-loop μ-loop
+same-length-2 c = c .before .loop .inv .0 .long
+
+returns : tie.Need-returns Inv-loop μ-loop
+returns c = c .before .loop .inv .0
+
+pub take-set-spec : {M : Type 1} → statement M
+take-set-spec =
+    tie.close
+    (tie.spec
+    Inv-loop
+    μ-loop
+    loop-holds
+    cast-bit
+    sub-rest
+    element-copy-out-wide
+    wide-requires
+    take-record-requires
+    loop-less
+    loop-again
+    same-length
+    same-length-2
+    returns)

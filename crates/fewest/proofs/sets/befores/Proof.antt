@@ -1,0 +1,75 @@
+-- `fewest::sets::befores` ends: the measure is the record.
+use mathlib.Core.Path.{_≡_}
+use lib.ListN.{length}
+use borrow.Author.Needs.{needs}
+use Rattle.fewest.proofs.sets.befores.Statement.{statement}
+use Rattle.fewest.proofs.sets.befores.Tie as tie
+
+abbrev Inv-loop : tie.InvT-loop
+Inv-loop rule starts first b hints₀ low r₀ hints r = length hints ≡ length hints₀
+
+abbrev μ-loop : tie.MeasureT-loop
+μ-loop rule starts first b hints₀ low r₀ hints r = r
+
+returns : tie.Need-returns Inv-loop μ-loop
+returns c = search needs
+
+add-put-hint : tie.Need-add-put-hint Inv-loop μ-loop
+add-put-hint c = search needs
+
+put-hint-requires : tie.Need-put-hint-requires Inv-loop μ-loop
+put-hint-requires c κs = search needs
+
+add-less : tie.Need-add-less Inv-loop μ-loop
+add-less c = search needs
+
+size-of-requires : tie.Need-size-of-requires Inv-loop μ-loop
+size-of-requires c κs = search needs
+
+less-requires : tie.Need-less-requires Inv-loop μ-loop
+less-requires c κs = search needs
+
+add-r : tie.Need-add-r Inv-loop μ-loop
+add-r c = search needs
+
+loop-holds : tie.Need-loop-holds Inv-loop μ-loop
+loop-holds c = search needs
+
+sub-r : tie.Need-sub-r Inv-loop μ-loop
+sub-r c = search needs
+
+before-if-requires : tie.Need-before-if-requires Inv-loop μ-loop
+before-if-requires c κs = search needs
+
+loop-less : tie.Need-loop-less Inv-loop μ-loop
+loop-less c = search needs
+
+loop-again : tie.Need-loop-again Inv-loop μ-loop
+loop-again c = search needs
+
+same-length : tie.Need-same-length Inv-loop μ-loop
+same-length c = search needs
+
+returns-2 : tie.Need-returns-2 Inv-loop μ-loop
+returns-2 c = search needs
+
+pub befores-spec : {M : Type 1} → statement M
+befores-spec =
+    tie.close
+    (tie.spec
+    Inv-loop
+    μ-loop
+    returns
+    add-put-hint
+    put-hint-requires
+    add-less
+    size-of-requires
+    less-requires
+    add-r
+    loop-holds
+    sub-r
+    before-if-requires
+    loop-less
+    loop-again
+    same-length
+    returns-2)

@@ -1,0 +1,64 @@
+// Scratch in the lent byte table: cells of two bytes. Each byte keeps its two low bits, where the marks of the questions stand.
+// What a cell holds is a hint and promised of nothing: whoever reads one checks it. Past the end a cell reads 0 and takes nothing.
+use crate::pairs::get;
+use crate::pairs::put;
+use crate::pairs::wide;
+use records::bytes::BASE;
+ghost use mathlib.Core.Path.{_≡_};
+ghost use Prim.Native.Nat.{_<_};
+ghost use lib.ListN.{length};
+ghost use Rattle.fewest.specs.Lows.{lows};
+
+// A cell's value is below this; a cell that names nothing has the greatest.
+pub const CELL: usize = HALF * HALF;
+
+// A cell's whole bytes are a number below this: a set of 16 bits.
+pub const SETS: usize = BASE * BASE;
+
+// Six bits of a byte, above its two low ones.
+const HALF: usize = 64;
+
+const LOW: usize = 4;
+
+// The value of a cell.
+pub fn cell(scratch: &[u8], i: usize) -> usize {
+    if scratch.len() / 2 <= i {
+        return 0;
+    }
+    wide(scratch[i + i]) / LOW * HALF + wide(scratch[i + i + 1]) / LOW
+}
+
+// The high six bits of a byte take a value, the low ones stay.
+fn put_half(scratch: &mut [u8], at: usize, v: usize)
+    requires { ⌜ at < length (now scratch) ⌝ }
+    ensures { λ _. ⌜ lows (now (scratch .exit)) ≡ lows (now (scratch .entry)) ⌝ }
+{
+    scratch[at] = (v % HALF * LOW + wide(scratch[at]) % LOW) as u8;
+}
+
+// The cell takes a value; the marks stay.
+pub fn put_cell(scratch: &mut [u8], i: usize, v: usize)
+    ensures { λ _. ⌜ lows (now (scratch .exit)) ≡ lows (now (scratch .entry)) ⌝ }
+{
+    if scratch.len() / 2 <= i {
+        return;
+    }
+    put_half(scratch, i + i, v / HALF);
+    put_half(scratch, i + i + 1, v);
+}
+
+// A cell's whole bytes as a set of 16 bits.
+pub fn set_at(scratch: &[u8], i: usize) -> usize {
+    if scratch.len() / 2 <= i {
+        return 0;
+    }
+    get(scratch, i)
+}
+
+// The cell's whole bytes take a set.
+pub fn put_set(scratch: &mut [u8], i: usize, set: usize) {
+    if scratch.len() / 2 <= i {
+        return;
+    }
+    put(scratch, i, set % SETS);
+}

@@ -1,0 +1,1433 @@
+// The number table by levels: from the finish of each body, the innermost body first, one step more at each level. What is stored
+// is offered by the table; where to look is a hint from scratch, and the sweep that follows certifies that nothing is missing.
+use crate::Goal;
+use crate::cells::put_set;
+use crate::cells::set_at;
+use crate::left::left;
+use crate::links::AS_TEST;
+use crate::links::AS_WHOLE;
+use crate::look::Moved;
+use crate::look::allows;
+use crate::look::by_axis;
+use crate::look::rest;
+use crate::pairs::wide;
+use crate::sets::HINTS;
+use crate::sets::before;
+use crate::sets::befores;
+use crate::sets::ends_in_star;
+use crate::sets::last_in;
+use crate::sets::lasts;
+use crate::sets::less;
+use crate::sets::orders;
+use crate::sets::place_of;
+use crate::sets::record_in;
+use crate::sets::root_of;
+use crate::sets::size_of;
+use crate::sets::sizes;
+use crate::table::lower;
+use crate::table::number;
+use crate::threads::FREE;
+use crate::threads::first_to;
+use crate::threads::inverse;
+use crate::threads::next_from;
+use crate::threads::thread;
+use crate::threads::witness;
+use records::Label;
+use records::NONE;
+use records::RECORDS;
+use records::Record;
+use records::Step;
+use records::TERMS;
+use records::rule::record_at;
+use records::site::triple_at;
+ghost use mathlib.Core.Logic.{_≢_};
+ghost use Prim.Native.Nat.{_<_};
+ghost use Rattle.meaning.specs.Limits.{terms, records};
+ghost use Rattle.meaning.specs.Move.{self};
+ghost use Rattle.records.specs.Sites.{Accepted, siteOf};
+ghost use Rattle.records.specs.declared.Record.the-variants.{Star};
+ghost use Rattle.fewest.specs.Pairs.{pairs};
+ghost use Rattle.fewest.specs.Frame.{Climbs, frame};
+ghost use Rattle.fewest.specs.Offer.{Lowers};
+ghost use Rattle.fewest.specs.Table.{Full};
+ghost use Rattle.fewest.specs.Work.{goalOf, Tests, workOf, Sits, Ready, Stayed, RecordWorked, Reached, Stepping, Hinted};
+
+// In scratch behind the threads: for two levels by turns, which steps are open at a term; which ever were; the terms of both.
+const OPEN: usize = FREE;
+
+const DONE: usize = OPEN + TERMS + TERMS;
+
+const LIST: usize = DONE + TERMS;
+
+// Staying at t for record r, where t stands in triple k.
+fn stay<'a>(
+    site: &[u8],
+    triples: usize,
+    k: usize,
+    up: &'a [u8; RECORDS],
+    role: &'a [u8; RECORDS],
+    goal: Goal,
+    numbers: &mut [u8],
+    label: Label,
+    cost: usize,
+    r: usize,
+    t: usize,
+) -> bool
+    requires { ⌜ Accepted (now site) triples × Full (now numbers) × Climbs records (now up) (now role) × (r < records) × (t < terms) × Tests label r × (cost < 2) ⌝ }
+    ensures { λ _. ⌜ Stayed (now (site .entry)) triples (now (up .entry)) (now (role .entry)) (goalOf goal) label cost r (pairs (now (numbers .entry))) (pairs (now (numbers .exit))) ⌝ }
+{
+    if triples <= k {
+        return false;
+    }
+    let x = triple_at(site, k);
+    if x.subject == t {
+        return rest(up, role, goal, numbers, label, cost, r, t, false);
+    }
+    if x.object == t {
+        return rest(up, role, goal, numbers, label, cost, r, t, false);
+    }
+    false
+}
+
+// A star's entry at t, which stands in triple k, from its operand's or, where that is no lower, by an empty round.
+fn star_at<'a>(
+    site: &[u8],
+    triples: usize,
+    up: &'a [u8; RECORDS],
+    role: &'a [u8; RECORDS],
+    goal: Goal,
+    numbers: &mut [u8],
+    r: usize,
+    t: usize,
+    k: usize,
+) -> bool
+    requires { ⌜ Accepted (now site) triples × Full (now numbers) × Climbs records (now up) (now role) × (r < records) × (0 < r) × (t < terms) ⌝ }
+    ensures { λ _. ⌜ RecordWorked (now (site .entry)) triples Star 0 (now (up .entry)) (now (role .entry)) (goalOf goal) r (pairs (now (numbers .entry))) (pairs (now (numbers .exit))) ⌝ }
+{
+    let v = number(numbers, r - 1, t);
+    if lower(numbers, r, t, v, false) {
+        return true;
+    }
+    stay(
+        site,
+        triples,
+        k,
+        up,
+        role,
+        goal,
+        numbers,
+        Label::Any,
+        0,
+        r,
+        t,
+    )
+}
+
+// The entry of record r at t, which stands in triple k, from its operands'; a step has none.
+fn column<'a>(
+    site: &[u8],
+    triples: usize,
+    rec: Record,
+    first: usize,
+    up: &'a [u8; RECORDS],
+    role: &'a [u8; RECORDS],
+    goal: Goal,
+    numbers: &mut [u8],
+    r: usize,
+    t: usize,
+    k: usize,
+) -> bool
+    requires { ⌜ Accepted (now site) triples × Full (now numbers) × Climbs records (now up) (now role) × (r < records) × (t < terms) × Sits rec r × (first < records) ⌝ }
+    ensures { λ _. ⌜ RecordWorked (now (site .entry)) triples rec first (now (up .entry)) (now (role .entry)) (goalOf goal) r (pairs (now (numbers .entry))) (pairs (now (numbers .exit))) ⌝ }
+{
+    match rec {
+        Record::Step(_) => false,
+        Record::Sequence => {
+            let v = number(numbers, first, t);
+            lower(numbers, r, t, v, false)
+        }
+        Record::Choice => {
+            let v = number(numbers, first, t);
+            let one = lower(numbers, r, t, v, false);
+            let w = number(numbers, r - 1, t);
+            lower(numbers, r, t, w, one)
+        }
+        Record::Star => star_at(site, triples, up, role, goal, numbers, r, t, k),
+    }
+}
+
+// The entry of record r at t, if it has none yet.
+fn fill_in<'a>(
+    site: &[u8],
+    triples: usize,
+    rule: &[u8],
+    starts: &[usize; RECORDS],
+    count: usize,
+    up: &'a [u8; RECORDS],
+    role: &'a [u8; RECORDS],
+    first: &'a [u8; RECORDS],
+    goal: Goal,
+    numbers: &mut [u8],
+    r: usize,
+    t: usize,
+    k: usize,
+) -> bool
+    requires { ⌜ Ready (now site) triples (now rule) (now starts) count (now up) (now role) (now first) × Full (now numbers) × (t < terms) ⌝ }
+    ensures { λ _. ⌜ Hinted (now (site .entry)) triples (now (rule .entry)) (now (up .entry)) (now (role .entry)) (now (first .entry)) (goalOf goal) (now (numbers .entry)) (now (numbers .exit)) ⌝ }
+{
+    if count <= r {
+        return false;
+    }
+    if number(numbers, r, t) < NONE {
+        return false;
+    }
+    let rec = record_at(rule, starts[r]);
+    let operand = first[r] as usize;
+    column(
+        site,
+        triples,
+        rec,
+        operand,
+        up,
+        role,
+        goal,
+        numbers,
+        r,
+        t,
+        k,
+    )
+}
+
+// The entries at t of all records of the expression of record r, in the order second operand, first operand, record.
+fn fill_within<'a>(
+    site: &[u8],
+    triples: usize,
+    rule: &[u8],
+    starts: &[usize; RECORDS],
+    count: usize,
+    up: &'a [u8; RECORDS],
+    role: &'a [u8; RECORDS],
+    first: &'a [u8; RECORDS],
+    goal: Goal,
+    numbers: &mut [u8],
+    hints: &[u16],
+    r: usize,
+    t: usize,
+    k: usize,
+)
+    requires { ⌜ Ready (now site) triples (now rule) (now starts) count (now up) (now role) (now first) × Full (now numbers) × (t < terms) ⌝ }
+    ensures { λ _. ⌜ Hinted (now (site .entry)) triples (now (rule .entry)) (now (up .entry)) (now (role .entry)) (now (first .entry)) (goalOf goal) (now (numbers .entry)) (now (numbers .exit)) ⌝ }
+{
+    let end = place_of(hints, r) % RECORDS + 1;
+    let mut i = less(end, size_of(hints, r));
+    while i < end {
+        fill_in(
+            site,
+            triples,
+            rule,
+            starts,
+            count,
+            up,
+            role,
+            first,
+            goal,
+            numbers,
+            record_in(hints, i),
+            t,
+            k,
+        );
+        i += 1;
+    }
+}
+
+// What may be finished at a term where the operand `at` of a record has a new entry: the first of a sequence where it is the
+// second, itself where it is a star's; else nothing, which is told by a number that no record has.
+fn finished_by(rec: Record, first: usize, at: usize) -> usize {
+    match rec {
+        Record::Step(_) => RECORDS,
+        Record::Sequence => {
+            if first == at {
+                return RECORDS;
+            }
+            first
+        }
+        Record::Choice => RECORDS,
+        Record::Star => at,
+    }
+}
+
+// Where the expression of record r may be finished at t, a star that it ends with may pass empty there.
+fn pass_empty<'a>(
+    site: &[u8],
+    triples: usize,
+    rule: &[u8],
+    starts: &[usize; RECORDS],
+    count: usize,
+    up: &'a [u8; RECORDS],
+    role: &'a [u8; RECORDS],
+    first: &'a [u8; RECORDS],
+    goal: Goal,
+    numbers: &mut [u8],
+    hints: &[u16],
+    r: usize,
+    t: usize,
+    k: usize,
+)
+    requires { ⌜ Ready (now site) triples (now rule) (now starts) count (now up) (now role) (now first) × Full (now numbers) × (t < terms) ⌝ }
+    ensures { λ _. ⌜ Hinted (now (site .entry)) triples (now (rule .entry)) (now (up .entry)) (now (role .entry)) (now (first .entry)) (goalOf goal) (now (numbers .entry)) (now (numbers .exit)) ⌝ }
+{
+    if RECORDS <= r {
+        return;
+    }
+    if triples <= k {
+        return;
+    }
+    if ends_in_star(hints, r) {
+        fill_within(
+            site,
+            triples,
+            rule,
+            starts,
+            count,
+            up,
+            role,
+            first,
+            goal,
+            numbers,
+            hints,
+            r,
+            t,
+            k,
+        );
+    }
+}
+
+// The entry of `at` at t is new: what may be finished there passes empty, and the record above takes the entry if it is lower.
+fn climb_one<'a>(
+    site: &[u8],
+    triples: usize,
+    rule: &[u8],
+    starts: &[usize; RECORDS],
+    count: usize,
+    up: &'a [u8; RECORDS],
+    role: &'a [u8; RECORDS],
+    first: &'a [u8; RECORDS],
+    goal: Goal,
+    numbers: &mut [u8],
+    hints: &[u16],
+    at: usize,
+    above: usize,
+    t: usize,
+    k: usize,
+) -> bool
+    requires { ⌜ Ready (now site) triples (now rule) (now starts) count (now up) (now role) (now first) × Full (now numbers) × (t < terms) ⌝ }
+    ensures { λ _. ⌜ Hinted (now (site .entry)) triples (now (rule .entry)) (now (up .entry)) (now (role .entry)) (now (first .entry)) (goalOf goal) (now (numbers .entry)) (now (numbers .exit)) ⌝ }
+{
+    if count <= above {
+        return false;
+    }
+    let rec = record_at(rule, starts[above]);
+    let operand = first[above] as usize;
+    pass_empty(
+        site,
+        triples,
+        rule,
+        starts,
+        count,
+        up,
+        role,
+        first,
+        goal,
+        numbers,
+        hints,
+        finished_by(rec, operand, at),
+        t,
+        k,
+    );
+    column(
+        site,
+        triples,
+        rec,
+        operand,
+        up,
+        role,
+        goal,
+        numbers,
+        above,
+        t,
+        k,
+    )
+}
+
+// The entry of record r at t is new: so may be those of the records above it.
+fn climb<'a>(
+    site: &[u8],
+    triples: usize,
+    rule: &[u8],
+    starts: &[usize; RECORDS],
+    count: usize,
+    up: &'a [u8; RECORDS],
+    role: &'a [u8; RECORDS],
+    first: &'a [u8; RECORDS],
+    goal: Goal,
+    numbers: &mut [u8],
+    hints: &[u16],
+    r: usize,
+    t: usize,
+    k: usize,
+)
+    requires { ⌜ Ready (now site) triples (now rule) (now starts) count (now up) (now role) (now first) × Full (now numbers) × (r < records) × (t < terms) ⌝ }
+    ensures { λ _. ⌜ Hinted (now (site .entry)) triples (now (rule .entry)) (now (up .entry)) (now (role .entry)) (now (first .entry)) (goalOf goal) (now (numbers .entry)) (now (numbers .exit)) ⌝ }
+{
+    let mut at = r;
+    loop {
+        let stands = role[at];
+        if stands == AS_WHOLE {
+            return;
+        }
+        if stands == AS_TEST {
+            return;
+        }
+        let above = up[at] as usize;
+        if !climb_one(
+            site,
+            triples,
+            rule,
+            starts,
+            count,
+            up,
+            role,
+            first,
+            goal,
+            numbers,
+            hints,
+            at,
+            above,
+            t,
+            k,
+        ) {
+            return;
+        }
+        at = above;
+    }
+}
+
+// Of these steps those after which something is left at t.
+fn possible<'a>(
+    up: &'a [u8; RECORDS],
+    role: &'a [u8; RECORDS],
+    goal: Goal,
+    numbers: &[u8],
+    steps: &[u8; RECORDS],
+    set: usize,
+    t: usize,
+) -> usize
+    requires { ⌜ Full (now numbers) × Climbs records (now up) (now role) × (t < terms) ⌝ }
+{
+    let mut rest = set;
+    let mut got = 0;
+    while rest != 0 {
+        let bit = usize::trailing_zeros(rest) as usize % RECORDS;
+        rest = rest & (rest - 1);
+        got = got | possible_one(up, role, goal, numbers, wide(steps[bit]), bit, t);
+    }
+    got
+}
+
+// The bit of step record r, if something is left after it at t.
+fn possible_one<'a>(
+    up: &'a [u8; RECORDS],
+    role: &'a [u8; RECORDS],
+    goal: Goal,
+    numbers: &[u8],
+    r: usize,
+    bit: usize,
+    t: usize,
+) -> usize
+    requires { ⌜ Full (now numbers) × Climbs records (now up) (now role) × (bit < records) × (t < terms) ⌝ }
+{
+    if RECORDS <= r {
+        return 0;
+    }
+    if left(numbers, up, role, goal, r, t) < NONE {
+        return 1usize << bit;
+    }
+    0
+}
+
+// Outside the vocabulary, where t stands in no triple k, a star does not pass empty: only possible steps are open there.
+fn openable<'a>(
+    triples: usize,
+    up: &'a [u8; RECORDS],
+    role: &'a [u8; RECORDS],
+    goal: Goal,
+    numbers: &[u8],
+    steps: &[u8; RECORDS],
+    set: usize,
+    t: usize,
+    k: usize,
+) -> usize
+    requires { ⌜ Full (now numbers) × Climbs records (now up) (now role) × (t < terms) ⌝ }
+{
+    if k < triples {
+        return set;
+    }
+    possible(up, role, goal, numbers, steps, set, t)
+}
+
+// These steps are open at t at the level of this side, but for those that were open before. The length of the level.
+fn open(scratch: &mut [u8], side: usize, len: usize, set: usize, t: usize) -> usize
+    requires { ⌜ t < terms ⌝ }
+{
+    let done = set_at(scratch, DONE + t);
+    let all = set | done;
+    let new = less(all, done);
+    if new == 0 {
+        return len;
+    }
+    let had = set_at(scratch, OPEN + side % 2 * TERMS + t);
+    put_set(scratch, DONE + t, all);
+    put_set(scratch, OPEN + side % 2 * TERMS + t, had | new);
+    if had != 0 {
+        return len;
+    }
+    if TERMS <= len {
+        return len;
+    }
+    put_set(scratch, LIST + side % 2 * TERMS + len, t);
+    len + 1
+}
+
+// The entry of step record r at t is new: what may come before it is open at t at the next level, whose length is handed on.
+fn rise<'a>(
+    site: &[u8],
+    triples: usize,
+    rule: &[u8],
+    starts: &[usize; RECORDS],
+    count: usize,
+    up: &'a [u8; RECORDS],
+    role: &'a [u8; RECORDS],
+    first: &'a [u8; RECORDS],
+    goal: Goal,
+    scratch: &mut [u8],
+    numbers: &mut [u8],
+    hints: &[u16],
+    steps: &[u8; RECORDS],
+    r: usize,
+    t: usize,
+    side: usize,
+    len: usize,
+) -> usize
+    requires { ⌜ Ready (now site) triples (now rule) (now starts) count (now up) (now role) (now first) × Full (now numbers) × (r < records) × (t < terms) ⌝ }
+    ensures { λ _. ⌜ Hinted (now (site .entry)) triples (now (rule .entry)) (now (up .entry)) (now (role .entry)) (now (first .entry)) (goalOf goal) (now (numbers .entry)) (now (numbers .exit)) ⌝ }
+{
+    let k = witness(scratch, t);
+    climb(
+        site,
+        triples,
+        rule,
+        starts,
+        count,
+        up,
+        role,
+        first,
+        goal,
+        numbers,
+        hints,
+        r,
+        t,
+        k,
+    );
+    let set = openable(
+        triples,
+        up,
+        role,
+        goal,
+        numbers,
+        steps,
+        before(hints, r),
+        t,
+        k,
+    );
+    open(scratch, side, len, set, t)
+}
+
+// A move for the step of record r: true where it gives an entry to a term that had none.
+fn reach<'a>(
+    m: Moved,
+    label: Label,
+    up: &'a [u8; RECORDS],
+    role: &'a [u8; RECORDS],
+    goal: Goal,
+    numbers: &mut [u8],
+    r: usize,
+) -> bool
+    requires { ⌜ Full (now numbers) × Climbs records (now up) (now role) × (r < records) × Tests label r × (m .from < terms) × (m .middle < terms) × (m .to < terms) ⌝ }
+    ensures { λ _. ⌜ Reached m label (now (up .entry)) (now (role .entry)) (goalOf goal) r (pairs (now (numbers .entry))) (pairs (now (numbers .exit))) ⌝ }
+{
+    if number(numbers, r, m.from) < NONE {
+        return false;
+    }
+    if allows(numbers, label, r, m.middle) {
+        let rest = left(numbers, up, role, goal, r, m.to);
+        return lower(numbers, r, m.from, rest + 1, false);
+    }
+    false
+}
+
+// Triple k for the step of record r.
+fn take<'a>(
+    site: &[u8],
+    triples: usize,
+    rule: &[u8],
+    starts: &[usize; RECORDS],
+    count: usize,
+    up: &'a [u8; RECORDS],
+    role: &'a [u8; RECORDS],
+    first: &'a [u8; RECORDS],
+    goal: Goal,
+    scratch: &mut [u8],
+    numbers: &mut [u8],
+    hints: &[u16],
+    steps: &[u8; RECORDS],
+    step: Step,
+    r: usize,
+    k: usize,
+    side: usize,
+    len: usize,
+) -> usize
+    requires { ⌜ Ready (now site) triples (now rule) (now starts) count (now up) (now role) (now first) × Full (now numbers) × (r < count) × (k < triples) × Stepping (now rule) (now starts) r step × (step .axis ≢ 0) ⌝ }
+    ensures { λ _. ⌜ Hinted (now (site .entry)) triples (now (rule .entry)) (now (up .entry)) (now (role .entry)) (now (first .entry)) (goalOf goal) (now (numbers .entry)) (now (numbers .exit)) ⌝ }
+{
+    let axis = step.axis;
+    let label = step.label;
+    let m = by_axis(axis, triple_at(site, k));
+    let t = m.from;
+    if reach(m, label, up, role, goal, numbers, r) {
+        return rise(
+            site,
+            triples,
+            rule,
+            starts,
+            count,
+            up,
+            role,
+            first,
+            goal,
+            scratch,
+            numbers,
+            hints,
+            steps,
+            r,
+            t,
+            side,
+            len,
+        );
+    }
+    len
+}
+
+// Each triple by which the step of record r leads to u.
+fn take_all<'a>(
+    site: &[u8],
+    triples: usize,
+    rule: &[u8],
+    starts: &[usize; RECORDS],
+    count: usize,
+    up: &'a [u8; RECORDS],
+    role: &'a [u8; RECORDS],
+    first: &'a [u8; RECORDS],
+    goal: Goal,
+    scratch: &mut [u8],
+    numbers: &mut [u8],
+    hints: &[u16],
+    steps: &[u8; RECORDS],
+    step: Step,
+    r: usize,
+    u: usize,
+    side: usize,
+    was: usize,
+) -> usize
+    requires { ⌜ Ready (now site) triples (now rule) (now starts) count (now up) (now role) (now first) × Full (now numbers) × (r < count) × (u < terms) × Stepping (now rule) (now starts) r step × (step .axis ≢ 0) ⌝ }
+    ensures { λ _. ⌜ Hinted (now (site .entry)) triples (now (rule .entry)) (now (up .entry)) (now (role .entry)) (now (first .entry)) (goalOf goal) (now (numbers .entry)) (now (numbers .exit)) ⌝ }
+{
+    let axis = step.axis;
+    let mut len = was;
+    let mut k = first_to(scratch, axis, u);
+    while k < triples {
+        len = take(
+            site,
+            triples,
+            rule,
+            starts,
+            count,
+            up,
+            role,
+            first,
+            goal,
+            scratch,
+            numbers,
+            hints,
+            steps,
+            step,
+            r,
+            k,
+            side,
+            len,
+        );
+        k = next_from(site, triples, scratch, inverse(axis), u, k);
+    }
+    len
+}
+
+// A self step of record r at u: at its named term, or where u stands in triple k.
+fn rest_at<'a>(
+    site: &[u8],
+    triples: usize,
+    k: usize,
+    up: &'a [u8; RECORDS],
+    role: &'a [u8; RECORDS],
+    goal: Goal,
+    numbers: &mut [u8],
+    label: Label,
+    r: usize,
+    u: usize,
+) -> bool
+    requires { ⌜ Accepted (now site) triples × Full (now numbers) × Climbs records (now up) (now role) × (r < records) × (u < terms) × Tests label r ⌝ }
+    ensures { λ _. ⌜ Lowers (frame (siteOf (now (site .entry)) triples) (now (up .entry)) (now (role .entry)) (goalOf goal)) (workOf self label) r (pairs (now (numbers .entry))) (pairs (now (numbers .exit))) ⌝ }
+{
+    if let Label::Term(term) = label {
+        if term == u {
+            return rest(up, role, goal, numbers, label, 1, r, u, false);
+        }
+        return false;
+    }
+    stay(site, triples, k, up, role, goal, numbers, label, 1, r, u)
+}
+
+// The step of record r, which is open at u.
+fn take_step<'a>(
+    site: &[u8],
+    triples: usize,
+    rule: &[u8],
+    starts: &[usize; RECORDS],
+    count: usize,
+    up: &'a [u8; RECORDS],
+    role: &'a [u8; RECORDS],
+    first: &'a [u8; RECORDS],
+    goal: Goal,
+    scratch: &mut [u8],
+    numbers: &mut [u8],
+    hints: &[u16],
+    steps: &[u8; RECORDS],
+    step: Step,
+    r: usize,
+    u: usize,
+    side: usize,
+    len: usize,
+) -> usize
+    requires { ⌜ Ready (now site) triples (now rule) (now starts) count (now up) (now role) (now first) × Full (now numbers) × (r < count) × (u < terms) × Stepping (now rule) (now starts) r step ⌝ }
+    ensures { λ _. ⌜ Hinted (now (site .entry)) triples (now (rule .entry)) (now (up .entry)) (now (role .entry)) (now (first .entry)) (goalOf goal) (now (numbers .entry)) (now (numbers .exit)) ⌝ }
+{
+    if step.axis != 0 {
+        return take_all(
+            site,
+            triples,
+            rule,
+            starts,
+            count,
+            up,
+            role,
+            first,
+            goal,
+            scratch,
+            numbers,
+            hints,
+            steps,
+            step,
+            r,
+            u,
+            side,
+            len,
+        );
+    }
+    let label = step.label;
+    let k = witness(scratch, u);
+    if rest_at(site, triples, k, up, role, goal, numbers, label, r, u) {
+        return rise(
+            site,
+            triples,
+            rule,
+            starts,
+            count,
+            up,
+            role,
+            first,
+            goal,
+            scratch,
+            numbers,
+            hints,
+            steps,
+            r,
+            u,
+            side,
+            len,
+        );
+    }
+    len
+}
+
+// Record r, which is open at u if the hint is right.
+fn take_record<'a>(
+    site: &[u8],
+    triples: usize,
+    rule: &[u8],
+    starts: &[usize; RECORDS],
+    count: usize,
+    up: &'a [u8; RECORDS],
+    role: &'a [u8; RECORDS],
+    first: &'a [u8; RECORDS],
+    goal: Goal,
+    scratch: &mut [u8],
+    numbers: &mut [u8],
+    hints: &[u16],
+    steps: &[u8; RECORDS],
+    r: usize,
+    u: usize,
+    side: usize,
+    len: usize,
+) -> usize
+    requires { ⌜ Ready (now site) triples (now rule) (now starts) count (now up) (now role) (now first) × Full (now numbers) × (u < terms) ⌝ }
+    ensures { λ _. ⌜ Hinted (now (site .entry)) triples (now (rule .entry)) (now (up .entry)) (now (role .entry)) (now (first .entry)) (goalOf goal) (now (numbers .entry)) (now (numbers .exit)) ⌝ }
+{
+    if count <= r {
+        return len;
+    }
+    match record_at(rule, starts[r]) {
+        Record::Step(step) => take_step(
+            site,
+            triples,
+            rule,
+            starts,
+            count,
+            up,
+            role,
+            first,
+            goal,
+            scratch,
+            numbers,
+            hints,
+            steps,
+            step,
+            r,
+            u,
+            side,
+            len,
+        ),
+        Record::Sequence => len,
+        Record::Choice => len,
+        Record::Star => len,
+    }
+}
+
+// Each step of a set that is open at u.
+fn take_set<'a>(
+    site: &[u8],
+    triples: usize,
+    rule: &[u8],
+    starts: &[usize; RECORDS],
+    count: usize,
+    up: &'a [u8; RECORDS],
+    role: &'a [u8; RECORDS],
+    first: &'a [u8; RECORDS],
+    goal: Goal,
+    scratch: &mut [u8],
+    numbers: &mut [u8],
+    hints: &[u16],
+    steps: &[u8; RECORDS],
+    set: usize,
+    u: usize,
+    side: usize,
+    was: usize,
+) -> usize
+    requires { ⌜ Ready (now site) triples (now rule) (now starts) count (now up) (now role) (now first) × Full (now numbers) × (u < terms) ⌝ }
+    ensures { λ _. ⌜ Hinted (now (site .entry)) triples (now (rule .entry)) (now (up .entry)) (now (role .entry)) (now (first .entry)) (goalOf goal) (now (numbers .entry)) (now (numbers .exit)) ⌝ }
+{
+    let mut len = was;
+    let mut rest = set;
+    while rest != 0 {
+        let bit = usize::trailing_zeros(rest) as usize % RECORDS;
+        rest = rest & (rest - 1);
+        len = take_record(
+            site,
+            triples,
+            rule,
+            starts,
+            count,
+            up,
+            role,
+            first,
+            goal,
+            scratch,
+            numbers,
+            hints,
+            steps,
+            wide(steps[bit]),
+            u,
+            side,
+            len,
+        );
+    }
+    len
+}
+
+// What is open at u at the level of this side is taken; what that opens stands at the next.
+fn take_term<'a>(
+    site: &[u8],
+    triples: usize,
+    rule: &[u8],
+    starts: &[usize; RECORDS],
+    count: usize,
+    up: &'a [u8; RECORDS],
+    role: &'a [u8; RECORDS],
+    first: &'a [u8; RECORDS],
+    goal: Goal,
+    scratch: &mut [u8],
+    numbers: &mut [u8],
+    hints: &[u16],
+    steps: &[u8; RECORDS],
+    u: usize,
+    side: usize,
+    len: usize,
+) -> usize
+    requires { ⌜ Ready (now site) triples (now rule) (now starts) count (now up) (now role) (now first) × Full (now numbers) ⌝ }
+    ensures { λ _. ⌜ Hinted (now (site .entry)) triples (now (rule .entry)) (now (up .entry)) (now (role .entry)) (now (first .entry)) (goalOf goal) (now (numbers .entry)) (now (numbers .exit)) ⌝ }
+{
+    if TERMS <= u {
+        return len;
+    }
+    let set = set_at(scratch, OPEN + side % 2 * TERMS + u);
+    put_set(scratch, OPEN + side % 2 * TERMS + u, 0);
+    take_set(
+        site,
+        triples,
+        rule,
+        starts,
+        count,
+        up,
+        role,
+        first,
+        goal,
+        scratch,
+        numbers,
+        hints,
+        steps,
+        set,
+        u,
+        side % 2 + 1,
+        len,
+    )
+}
+
+// One level: each of its terms. The length of the next.
+fn level<'a>(
+    site: &[u8],
+    triples: usize,
+    rule: &[u8],
+    starts: &[usize; RECORDS],
+    count: usize,
+    up: &'a [u8; RECORDS],
+    role: &'a [u8; RECORDS],
+    first: &'a [u8; RECORDS],
+    goal: Goal,
+    scratch: &mut [u8],
+    numbers: &mut [u8],
+    hints: &[u16],
+    steps: &[u8; RECORDS],
+    side: usize,
+    len: usize,
+) -> usize
+    requires { ⌜ Ready (now site) triples (now rule) (now starts) count (now up) (now role) (now first) × Full (now numbers) ⌝ }
+    ensures { λ _. ⌜ Hinted (now (site .entry)) triples (now (rule .entry)) (now (up .entry)) (now (role .entry)) (now (first .entry)) (goalOf goal) (now (numbers .entry)) (now (numbers .exit)) ⌝ }
+{
+    let mut next = 0;
+    let mut i = 0;
+    while i < len {
+        let u = set_at(scratch, LIST + side % 2 * TERMS + i % TERMS);
+        next = take_term(
+            site,
+            triples,
+            rule,
+            starts,
+            count,
+            up,
+            role,
+            first,
+            goal,
+            scratch,
+            numbers,
+            hints,
+            steps,
+            u,
+            side,
+            next,
+        );
+        i += 1;
+    }
+    next
+}
+
+// The body of root b may finish at t: what may be last in it is open there.
+fn begin<'a>(
+    site: &[u8],
+    triples: usize,
+    rule: &[u8],
+    starts: &[usize; RECORDS],
+    count: usize,
+    up: &'a [u8; RECORDS],
+    role: &'a [u8; RECORDS],
+    first: &'a [u8; RECORDS],
+    goal: Goal,
+    scratch: &mut [u8],
+    numbers: &mut [u8],
+    hints: &[u16],
+    steps: &[u8; RECORDS],
+    b: usize,
+    t: usize,
+    len: usize,
+) -> usize
+    requires { ⌜ Ready (now site) triples (now rule) (now starts) count (now up) (now role) (now first) × Full (now numbers) × (t < terms) ⌝ }
+    ensures { λ _. ⌜ Hinted (now (site .entry)) triples (now (rule .entry)) (now (up .entry)) (now (role .entry)) (now (first .entry)) (goalOf goal) (now (numbers .entry)) (now (numbers .exit)) ⌝ }
+{
+    let k = witness(scratch, t);
+    pass_empty(
+        site,
+        triples,
+        rule,
+        starts,
+        count,
+        up,
+        role,
+        first,
+        goal,
+        numbers,
+        hints,
+        b,
+        t,
+        k,
+    );
+    let set = openable(
+        triples,
+        up,
+        role,
+        goal,
+        numbers,
+        steps,
+        last_in(hints, b),
+        t,
+        k,
+    );
+    open(scratch, 0, len, set, t)
+}
+
+// The body of root b may finish anywhere.
+fn begin_all<'a>(
+    site: &[u8],
+    triples: usize,
+    rule: &[u8],
+    starts: &[usize; RECORDS],
+    count: usize,
+    up: &'a [u8; RECORDS],
+    role: &'a [u8; RECORDS],
+    first: &'a [u8; RECORDS],
+    goal: Goal,
+    scratch: &mut [u8],
+    numbers: &mut [u8],
+    hints: &[u16],
+    steps: &[u8; RECORDS],
+    b: usize,
+) -> usize
+    requires { ⌜ Ready (now site) triples (now rule) (now starts) count (now up) (now role) (now first) × Full (now numbers) ⌝ }
+    ensures { λ _. ⌜ Hinted (now (site .entry)) triples (now (rule .entry)) (now (up .entry)) (now (role .entry)) (now (first .entry)) (goalOf goal) (now (numbers .entry)) (now (numbers .exit)) ⌝ }
+{
+    let mut len = 0;
+    let mut t = 0;
+    while t < TERMS {
+        len = begin(
+            site,
+            triples,
+            rule,
+            starts,
+            count,
+            up,
+            role,
+            first,
+            goal,
+            scratch,
+            numbers,
+            hints,
+            steps,
+            b,
+            t,
+            len,
+        );
+        t += 1;
+    }
+    len
+}
+
+// The first level of the body of root b: a test finishes anywhere, the rule's own body where the goal allows it.
+fn begin_body<'a>(
+    site: &[u8],
+    triples: usize,
+    rule: &[u8],
+    starts: &[usize; RECORDS],
+    count: usize,
+    up: &'a [u8; RECORDS],
+    role: &'a [u8; RECORDS],
+    first: &'a [u8; RECORDS],
+    goal: Goal,
+    scratch: &mut [u8],
+    numbers: &mut [u8],
+    hints: &[u16],
+    steps: &[u8; RECORDS],
+    b: usize,
+) -> usize
+    requires { ⌜ Ready (now site) triples (now rule) (now starts) count (now up) (now role) (now first) × Full (now numbers) × (b < records) ⌝ }
+    ensures { λ _. ⌜ Hinted (now (site .entry)) triples (now (rule .entry)) (now (up .entry)) (now (role .entry)) (now (first .entry)) (goalOf goal) (now (numbers .entry)) (now (numbers .exit)) ⌝ }
+{
+    if role[b] == AS_WHOLE {
+        if let Goal::End(end) = goal {
+            return begin_if(
+                site,
+                triples,
+                rule,
+                starts,
+                count,
+                up,
+                role,
+                first,
+                goal,
+                scratch,
+                numbers,
+                hints,
+                steps,
+                b,
+                end,
+            );
+        }
+    }
+    begin_all(
+        site,
+        triples,
+        rule,
+        starts,
+        count,
+        up,
+        role,
+        first,
+        goal,
+        scratch,
+        numbers,
+        hints,
+        steps,
+        b,
+    )
+}
+
+// The rule's own body may finish at the end alone.
+fn begin_if<'a>(
+    site: &[u8],
+    triples: usize,
+    rule: &[u8],
+    starts: &[usize; RECORDS],
+    count: usize,
+    up: &'a [u8; RECORDS],
+    role: &'a [u8; RECORDS],
+    first: &'a [u8; RECORDS],
+    goal: Goal,
+    scratch: &mut [u8],
+    numbers: &mut [u8],
+    hints: &[u16],
+    steps: &[u8; RECORDS],
+    b: usize,
+    end: usize,
+) -> usize
+    requires { ⌜ Ready (now site) triples (now rule) (now starts) count (now up) (now role) (now first) × Full (now numbers) ⌝ }
+    ensures { λ _. ⌜ Hinted (now (site .entry)) triples (now (rule .entry)) (now (up .entry)) (now (role .entry)) (now (first .entry)) (goalOf goal) (now (numbers .entry)) (now (numbers .exit)) ⌝ }
+{
+    if TERMS <= end {
+        return 0;
+    }
+    begin(
+        site,
+        triples,
+        rule,
+        starts,
+        count,
+        up,
+        role,
+        first,
+        goal,
+        scratch,
+        numbers,
+        hints,
+        steps,
+        b,
+        end,
+        0,
+    )
+}
+
+// No step is open, and none ever was.
+fn shut_all(scratch: &mut [u8]) {
+    let mut t = 0;
+    while t < TERMS {
+        put_set(scratch, OPEN + t, 0);
+        put_set(scratch, OPEN + TERMS + t, 0);
+        put_set(scratch, DONE + t, 0);
+        t += 1;
+    }
+}
+
+// Level after level, until one is empty; there are never more levels than entries.
+fn run_levels<'a>(
+    site: &[u8],
+    triples: usize,
+    rule: &[u8],
+    starts: &[usize; RECORDS],
+    count: usize,
+    up: &'a [u8; RECORDS],
+    role: &'a [u8; RECORDS],
+    first: &'a [u8; RECORDS],
+    goal: Goal,
+    scratch: &mut [u8],
+    numbers: &mut [u8],
+    hints: &[u16],
+    steps: &[u8; RECORDS],
+    begun: usize,
+)
+    requires { ⌜ Ready (now site) triples (now rule) (now starts) count (now up) (now role) (now first) × Full (now numbers) ⌝ }
+    ensures { λ _. ⌜ Hinted (now (site .entry)) triples (now (rule .entry)) (now (up .entry)) (now (role .entry)) (now (first .entry)) (goalOf goal) (now (numbers .entry)) (now (numbers .exit)) ⌝ }
+{
+    let mut len = begun;
+    let mut side = 0;
+    while 0 < len {
+        if RECORDS * TERMS <= side {
+            return;
+        }
+        len = level(
+            site,
+            triples,
+            rule,
+            starts,
+            count,
+            up,
+            role,
+            first,
+            goal,
+            scratch,
+            numbers,
+            hints,
+            steps,
+            side,
+            len,
+        );
+        side += 1;
+    }
+}
+
+// What may be last and what may come before in the body of root b; no step of it is open yet.
+fn prepare<'a>(
+    rule: &[u8],
+    starts: &[usize; RECORDS],
+    first: &'a [u8; RECORDS],
+    scratch: &mut [u8],
+    hints: &mut [u16],
+    steps: &mut [u8; RECORDS],
+    b: usize,
+)
+    requires { ⌜ b < records ⌝ }
+{
+    lasts(rule, starts, first, b, steps, hints);
+    befores(rule, starts, first, b, hints);
+    shut_all(scratch);
+}
+
+// The entries of the body of root b.
+fn search<'a>(
+    site: &[u8],
+    triples: usize,
+    rule: &[u8],
+    starts: &[usize; RECORDS],
+    count: usize,
+    up: &'a [u8; RECORDS],
+    role: &'a [u8; RECORDS],
+    first: &'a [u8; RECORDS],
+    goal: Goal,
+    scratch: &mut [u8],
+    numbers: &mut [u8],
+    hints: &mut [u16],
+    steps: &mut [u8; RECORDS],
+    b: usize,
+)
+    requires { ⌜ Ready (now site) triples (now rule) (now starts) count (now up) (now role) (now first) × Full (now numbers) × (b < records) ⌝ }
+    ensures { λ _. ⌜ Hinted (now (site .entry)) triples (now (rule .entry)) (now (up .entry)) (now (role .entry)) (now (first .entry)) (goalOf goal) (now (numbers .entry)) (now (numbers .exit)) ⌝ }
+{
+    prepare(rule, starts, first, scratch, hints, steps, b);
+    let begun = begin_body(
+        site,
+        triples,
+        rule,
+        starts,
+        count,
+        up,
+        role,
+        first,
+        goal,
+        scratch,
+        numbers,
+        hints,
+        steps,
+        b,
+    );
+    run_levels(
+        site,
+        triples,
+        rule,
+        starts,
+        count,
+        up,
+        role,
+        first,
+        goal,
+        scratch,
+        numbers,
+        hints,
+        steps,
+        begun,
+    )
+}
+
+// The body of root b, if there is one.
+fn search_if<'a>(
+    site: &[u8],
+    triples: usize,
+    rule: &[u8],
+    starts: &[usize; RECORDS],
+    count: usize,
+    up: &'a [u8; RECORDS],
+    role: &'a [u8; RECORDS],
+    first: &'a [u8; RECORDS],
+    goal: Goal,
+    scratch: &mut [u8],
+    numbers: &mut [u8],
+    hints: &mut [u16],
+    steps: &mut [u8; RECORDS],
+    b: usize,
+)
+    requires { ⌜ Ready (now site) triples (now rule) (now starts) count (now up) (now role) (now first) × Full (now numbers) × (b < records) ⌝ }
+    ensures { λ _. ⌜ Hinted (now (site .entry)) triples (now (rule .entry)) (now (up .entry)) (now (role .entry)) (now (first .entry)) (goalOf goal) (now (numbers .entry)) (now (numbers .exit)) ⌝ }
+{
+    if root_of(hints, b) == b {
+        search(
+            site,
+            triples,
+            rule,
+            starts,
+            count,
+            up,
+            role,
+            first,
+            goal,
+            scratch,
+            numbers,
+            hints,
+            steps,
+            b,
+        );
+    }
+}
+
+// Body after body, the inner ones first: a test's last record stands before the step's.
+fn search_all<'a>(
+    site: &[u8],
+    triples: usize,
+    rule: &[u8],
+    starts: &[usize; RECORDS],
+    count: usize,
+    up: &'a [u8; RECORDS],
+    role: &'a [u8; RECORDS],
+    first: &'a [u8; RECORDS],
+    goal: Goal,
+    scratch: &mut [u8],
+    numbers: &mut [u8],
+    hints: &mut [u16],
+    steps: &mut [u8; RECORDS],
+)
+    requires { ⌜ Ready (now site) triples (now rule) (now starts) count (now up) (now role) (now first) × Full (now numbers) ⌝ }
+    ensures { λ _. ⌜ Hinted (now (site .entry)) triples (now (rule .entry)) (now (up .entry)) (now (role .entry)) (now (first .entry)) (goalOf goal) (now (numbers .entry)) (now (numbers .exit)) ⌝ }
+{
+    let mut b = 0;
+    while b < RECORDS {
+        if count <= b {
+            return;
+        }
+        search_if(
+            site,
+            triples,
+            rule,
+            starts,
+            count,
+            up,
+            role,
+            first,
+            goal,
+            scratch,
+            numbers,
+            hints,
+            steps,
+            b,
+        );
+        b += 1;
+    }
+}
+
+// The whole table.
+pub fn levels<'a>(
+    site: &[u8],
+    triples: usize,
+    rule: &[u8],
+    starts: &[usize; RECORDS],
+    count: usize,
+    up: &'a [u8; RECORDS],
+    role: &'a [u8; RECORDS],
+    first: &'a [u8; RECORDS],
+    goal: Goal,
+    scratch: &mut [u8],
+    numbers: &mut [u8],
+)
+    requires { ⌜ Ready (now site) triples (now rule) (now starts) count (now up) (now role) (now first) × Full (now numbers) ⌝ }
+    ensures { λ _. ⌜ Hinted (now (site .entry)) triples (now (rule .entry)) (now (up .entry)) (now (role .entry)) (now (first .entry)) (goalOf goal) (now (numbers .entry)) (now (numbers .exit)) ⌝ }
+{
+    let mut hints = [0u16; HINTS];
+    let mut steps = [0u8; RECORDS];
+    thread(site, triples, scratch);
+    sizes(rule, starts, count, first, &mut hints);
+    orders(rule, starts, count, first, &mut hints);
+    search_all(
+        site,
+        triples,
+        rule,
+        starts,
+        count,
+        up,
+        role,
+        first,
+        goal,
+        scratch,
+        numbers,
+        &mut hints,
+        &mut steps,
+    )
+}

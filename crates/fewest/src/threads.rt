@@ -1,0 +1,159 @@
+// The triples threaded by their terms, in scratch: for each term the first triple with that subject, predicate or object, and for
+// each triple the next with the same predicate and with the same object; the site itself is in the order of subjects. A hint.
+use crate::cells::CELL;
+use crate::cells::cell;
+use crate::cells::put_cell;
+use records::TERMS;
+use records::TRIPLES;
+use records::site::triple_at;
+ghost use Prim.Native.Nat.{_<_};
+ghost use Rattle.records.specs.Sites.{Accepted};
+ghost use Rattle.fewest.specs.Work.{Has};
+
+// Where the first triples and the next ones stand; what is behind them is free.
+const SUBJECT: usize = 0;
+
+const PREDICATE: usize = SUBJECT + TERMS;
+
+const OBJECT: usize = PREDICATE + TERMS;
+
+const NEXT_PREDICATE: usize = OBJECT + TERMS;
+
+const NEXT_OBJECT: usize = NEXT_PREDICATE + TRIPLES;
+
+pub const FREE: usize = NEXT_OBJECT + TRIPLES;
+
+// Every cell names nothing.
+fn clear(scratch: &mut [u8]) {
+    let mut i = 0;
+    while i < scratch.len() {
+        scratch[i] = 252;
+        i += 1;
+    }
+}
+
+// Triple k becomes the first of a thread.
+fn head(scratch: &mut [u8], first: usize, next: usize, k: usize) {
+    let was = cell(scratch, first);
+    put_cell(scratch, next, was);
+    put_cell(scratch, first, k);
+}
+
+// Triple k becomes the first of its threads.
+fn thread_one(site: &[u8], k: usize, scratch: &mut [u8])
+    requires { ⌜ Has (now site) k ⌝ }
+{
+    let x = triple_at(site, k);
+    put_cell(scratch, SUBJECT + x.subject % TERMS, k);
+    head(
+        scratch,
+        PREDICATE + x.predicate % TERMS,
+        NEXT_PREDICATE + k,
+        k,
+    );
+    head(scratch, OBJECT + x.object % TERMS, NEXT_OBJECT + k, k);
+}
+
+// The threads of a site: from the last triple to the first, so that each goes up.
+pub fn thread(site: &[u8], triples: usize, scratch: &mut [u8])
+    requires { ⌜ Accepted (now site) triples ⌝ }
+{
+    clear(scratch);
+    let mut k = triples;
+    while 0 < k {
+        k -= 1;
+        thread_one(site, k, scratch);
+    }
+}
+
+// The first triple by which an axis leads from t, and the first by which it leads to t.
+pub fn first_from(scratch: &[u8], axis: usize, t: usize) -> usize {
+    match axis {
+        1 => cell(scratch, SUBJECT + t % TERMS),
+        3 => cell(scratch, SUBJECT + t % TERMS),
+        2 => cell(scratch, OBJECT + t % TERMS),
+        6 => cell(scratch, OBJECT + t % TERMS),
+        _ => cell(scratch, PREDICATE + t % TERMS),
+    }
+}
+
+pub fn first_to(scratch: &[u8], axis: usize, t: usize) -> usize {
+    first_from(scratch, inverse(axis), t)
+}
+
+// An axis and its inverse lead the same triples from and to the other's ends.
+pub fn inverse(axis: usize) -> usize {
+    match axis {
+        1 => 2,
+        2 => 1,
+        3 => 4,
+        4 => 3,
+        5 => 6,
+        _ => 5,
+    }
+}
+
+// The next triple after k by which the axis leads from t; as many as there are triples where there is none.
+pub fn next_from(
+    site: &[u8],
+    triples: usize,
+    scratch: &[u8],
+    axis: usize,
+    t: usize,
+    k: usize,
+) -> usize
+    requires { ⌜ Accepted (now site) triples × (k < triples) ⌝ }
+    ensures { λ j. ⌜ k < j ⌝ }
+{
+    match axis {
+        1 => same_subject(site, triples, t, k),
+        3 => same_subject(site, triples, t, k),
+        2 => later(triples, cell(scratch, NEXT_OBJECT + k), k),
+        6 => later(triples, cell(scratch, NEXT_OBJECT + k), k),
+        _ => later(triples, cell(scratch, NEXT_PREDICATE + k), k),
+    }
+}
+
+// A thread goes up: a next triple that does not stand later ends it.
+fn later(triples: usize, next: usize, k: usize) -> usize
+    requires { ⌜ k < triples ⌝ }
+    ensures { λ j. ⌜ k < j ⌝ }
+{
+    if next <= k {
+        return triples;
+    }
+    next
+}
+
+// The triple after k, if it has the same subject.
+fn same_subject(site: &[u8], triples: usize, t: usize, k: usize) -> usize
+    requires { ⌜ Accepted (now site) triples × (k < triples) ⌝ }
+    ensures { λ j. ⌜ k < j ⌝ }
+{
+    let next = k + 1;
+    if triples <= next {
+        return triples;
+    }
+    if triple_at(site, next).subject == t {
+        return next;
+    }
+    triples
+}
+
+// A triple that has the term as subject or object; the greatest value of a cell where the term is outside the vocabulary.
+pub fn witness(scratch: &[u8], t: usize) -> usize {
+    let k = cell(scratch, SUBJECT + t % TERMS);
+    if k < CELL - 1 {
+        return k;
+    }
+    cell(scratch, OBJECT + t % TERMS)
+}
+
+// The first triple that has the term as subject, and the first that has it as object.
+pub fn first_subject(scratch: &[u8], t: usize) -> usize {
+    cell(scratch, SUBJECT + t % TERMS)
+}
+
+pub fn first_object(scratch: &[u8], t: usize) -> usize {
+    cell(scratch, OBJECT + t % TERMS)
+}
