@@ -4,11 +4,11 @@
 #include "carolivy.h"
 #include "families.h"
 #include "yardstick.h"
+#include "../tests/stack/painted.h"
 #include <stdio.h>
 #include <stdlib.h>
 #include <string.h>
 #include <time.h>
-#include <ucontext.h>
 #if defined __x86_64__ && __has_include(<valgrind/callgrind.h>)
 #include <valgrind/callgrind.h>
 #else
@@ -135,9 +135,6 @@ static void count(side call)
 
 /* stack: the call on a stack painted beforehand; what is no longer paint was used */
 
-enum { STACK = 1 << 18, PAINT = 0x5e };
-static uint8_t painted[STACK] __attribute__((aligned(64)));
-static ucontext_t here, there;
 static side stack_call;
 static const families_input *stack_input;
 
@@ -145,18 +142,9 @@ static void on_painted_stack(void) { stack_call(stack_input); }
 
 static size_t used(side call, const families_input *i)
 {
-    size_t untouched = 0;
-    memset(painted, PAINT, sizeof painted);
-    getcontext(&there);
-    there.uc_stack.ss_sp = painted;
-    there.uc_stack.ss_size = sizeof painted;
-    there.uc_link = &here;
     stack_call = call;
     stack_input = i;
-    makecontext(&there, on_painted_stack, 0);
-    swapcontext(&here, &there);
-    while (untouched < STACK && painted[untouched] == PAINT) untouched++;
-    return STACK - untouched;
+    return painted_use(on_painted_stack, 0x5e);
 }
 
 /* The call of nothing takes its return address and the arguments on the stack as the side does; the address is counted. */

@@ -141,6 +141,16 @@ static void returned(const lent *l)
         }
 }
 
+/* After a call on both tables and on one buffer more. */
+static void all_returned(const lent *more)
+{
+    returned(&site);
+    returned(&rule);
+    returned(&asked);
+    returned(&numbers);
+    returned(more);
+}
+
 /* The calls. Each is made on freshly lent buffers; NULL and the placing are drawn anew. */
 
 static int lend_parts(const char *name)
@@ -197,11 +207,7 @@ static carolivy_ends check_ends(both_seen *seen)
     same("number of ends", got.ends, want.count);
     same("figure", got.figure, want.figure);
     same("unused", got.unused, 0);
-    returned(&site);
-    returned(&rule);
-    returned(&asked);
-    returned(&numbers);
-    returned(&third);
+    all_returned(&third);
     count_refusal(seen, &want);
     if (!want.refusal) count_corners(seen);
     if (want.count > 0) seen->count[SEEN_ENDS]++;
@@ -219,11 +225,7 @@ static carolivy_starts check_starts(both_seen *seen)
     same("place", got.place, want.place);
     same("number of starts", got.starts, want.count);
     same("unused", got.unused, 0);
-    returned(&site);
-    returned(&rule);
-    returned(&asked);
-    returned(&numbers);
-    returned(&third);
+    all_returned(&third);
     count_refusal(seen, &want);
     if (want.count > 0) seen->count[SEEN_STARTS]++;
     return got;
@@ -266,11 +268,7 @@ static carolivy_decision check_decision(both_seen *seen, uint32_t end)
     same("yes", got.yes, want.yes);
     same("figure", got.figure, want.figure);
     same("steps", got.steps, want.steps);
-    returned(&site);
-    returned(&rule);
-    returned(&asked);
-    returned(&numbers);
-    returned(&room);
+    all_returned(&room);
     if (differences > before && end != input->end) printf("difference: that was with end %lu\n", (unsigned long)end);
     count_decision(seen, &want, end);
     return got;

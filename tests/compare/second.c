@@ -421,8 +421,8 @@ second_answer second_decide(const uint8_t *site, size_t site_length, const uint8
         return answer;
     }
     if (!read_both(site, site_length, rule, rule_length, &answer)) return answer;
-    if (start > 255 || end > 255) {
-        refuse(&answer, 14, start > 255 ? 0 : 1);
+    if (start >= TERMS || end >= TERMS) {
+        refuse(&answer, 14, start >= TERMS ? 0 : 1);
         return answer;
     }
     relate_rule();
@@ -443,21 +443,28 @@ second_answer second_decide(const uint8_t *site, size_t site_length, const uint8
     return answer;
 }
 
+/* What both lists begin with; false where the answer is a refusal. */
+static bool begin_list(bool long_enough, const uint8_t *site, size_t site_length, const uint8_t *rule, size_t rule_length,
+                       uint32_t term, uint64_t place, second_answer *answer)
+{
+    if (!long_enough) refuse(answer, 1, 0);
+    else if (read_both(site, site_length, rule, rule_length, answer)) {
+        if (term < TERMS) {
+            relate_rule();
+            return true;
+        }
+        refuse(answer, 14, place);
+    }
+    return false;
+}
+
 second_answer second_list_ends(const uint8_t *site, size_t site_length, const uint8_t *rule, size_t rule_length,
                                uint32_t start, uint8_t *asked, size_t asked_length,
                                uint8_t *numbers, size_t numbers_length, uint8_t *third, size_t third_length)
 {
     second_answer answer = { 0 };
-    if (asked_length != TABLE || numbers_length != 2 * TABLE || third_length != TERMS) {
-        refuse(&answer, 1, 0);
-        return answer;
-    }
-    if (!read_both(site, site_length, rule, rule_length, &answer)) return answer;
-    if (start > 255) {
-        refuse(&answer, 14, 0);
-        return answer;
-    }
-    relate_rule();
+    bool long_enough = asked_length == TABLE && numbers_length == 2 * TABLE && third_length == TERMS;
+    if (!begin_list(long_enough, site, site_length, rule, rule_length, start, 0, &answer)) return answer;
     answer.figure = figure((int)start);
     count_numbers(ANYWHERE);
     agree(ANYWHERE);
@@ -474,16 +481,9 @@ second_answer second_list_starts(const uint8_t *site, size_t site_length, const 
                                  uint8_t *numbers, size_t numbers_length, uint8_t *third, size_t third_length)
 {
     second_answer answer = { 0 };
-    if (asked_length != TABLE || numbers_length != 2 * TABLE || third_length != TERMS) {
-        refuse(&answer, 1, 0);
-        return answer;
-    }
-    if (!read_both(site, site_length, rule, rule_length, &answer)) return answer;
-    if (end > 255) {
-        refuse(&answer, 14, 1); /* the place is by role: 1 is an end, though no start is taken */
-        return answer;
-    }
-    relate_rule();
+    bool long_enough = asked_length == TABLE && numbers_length == 2 * TABLE && third_length == TERMS;
+    /* the place is by role: 1 is an end, though no start is taken */
+    if (!begin_list(long_enough, site, site_length, rule, rule_length, end, 1, &answer)) return answer;
     memset(at.asked, 0, sizeof at.asked);
     count_numbers((int)end);
     agree((int)end);

@@ -3,17 +3,15 @@
 #define _DEFAULT_SOURCE
 #include "carolivy.h"
 #include "../compare/inputs.h"
+#include "painted.h"
 #include <stdio.h>
 #include <stdlib.h>
-#include <string.h>
-#include <ucontext.h>
 
-enum { STACK = 1 << 20, CALLS = 4 };
+enum { CALLS = 4 };
 
 static const char *const names[CALLS] = { "carolivy_decide", "carolivy_list_ends", "carolivy_list_starts", "carolivy_ceiling_of" };
-static uint8_t stack[STACK], asked[BOTH_LENT], numbers[BOTH_LENT], third[BOTH_LENT], room[BOTH_LENT];
+static uint8_t asked[BOTH_LENT], numbers[BOTH_LENT], third[BOTH_LENT], room[BOTH_LENT];
 static both_input in;
-static ucontext_t here, there;
 
 /* What is called: a call of the library, or one of the same shape that does nothing, which takes its return address. */
 typedef carolivy_decision decide_call(const uint8_t *, size_t, const uint8_t *, size_t, uint32_t, uint32_t, uint8_t *, size_t, uint8_t *, size_t, uint8_t *, size_t);
@@ -62,37 +60,25 @@ static ends_call *volatile ends;
 static starts_call *volatile starts;
 static ceiling_call *volatile ceiling;
 
-static void call(int which)
+static int called;
+static void call(void)
 {
     static volatile uint64_t result; /* so that no call is left out */
-    if (which == 0) result = decide(in.site, in.site_length, in.rule, in.rule_length, in.start, in.end, asked, in.asked_length,
+    if (called == 0) result = decide(in.site, in.site_length, in.rule, in.rule_length, in.start, in.end, asked, in.asked_length,
                                     numbers, in.numbers_length, room, in.room_length).figure;
-    if (which == 1) result = ends(in.site, in.site_length, in.rule, in.rule_length, in.start, asked, in.asked_length,
+    if (called == 1) result = ends(in.site, in.site_length, in.rule, in.rule_length, in.start, asked, in.asked_length,
                                   numbers, in.numbers_length, third, in.third_length).figure;
-    if (which == 2) result = starts(in.site, in.site_length, in.rule, in.rule_length, in.end, asked, in.asked_length,
+    if (called == 2) result = starts(in.site, in.site_length, in.rule, in.rule_length, in.end, asked, in.asked_length,
                                     numbers, in.numbers_length, third, in.third_length).starts;
-    if (which == 3) result = ceiling(in.site, in.site_length, in.rule, in.rule_length).ceiling;
+    if (called == 3) result = ceiling(in.site, in.site_length, in.rule, in.rule_length).ceiling;
     (void)result;
-}
-
-static size_t touched(int which, int paint)
-{
-    size_t clean = 0;
-    memset(stack, paint, sizeof stack);
-    getcontext(&there);
-    there.uc_stack.ss_sp = stack;
-    there.uc_stack.ss_size = sizeof stack;
-    there.uc_link = &here;
-    makecontext(&there, (void (*)(void))call, 1, which);
-    swapcontext(&here, &there);
-    while (clean < STACK && stack[clean] == paint) clean++;
-    return STACK - clean;
 }
 
 /* A byte that is left as painted by chance is written in another paint. */
 static size_t deepest(int which)
 {
-    size_t one = touched(which, 0xa5), other = touched(which, 0x3c);
+    called = which;
+    size_t one = painted_use(call, 0xa5), other = painted_use(call, 0x3c);
     return one > other ? one : other;
 }
 
