@@ -157,7 +157,7 @@ static void give(const char *family, int size, const site *s, const rule *r, int
 }
 
 /* The small depot, and the same with many rings of three places */
-static void depots(void)
+static void depot(int rings)
 {
     static const struct { const char *name, *rule; int start, end; } cases[] = {
         { "P1 one named step", "next:10", 0, 1 }, { "P2 star of a named step", "next:10 *", 0, 0 }, { "P3 star", "next *", 0, 2 },
@@ -165,23 +165,27 @@ static void depots(void)
         { "P6 edge, self", "edge self /", 10, 12 }, { "P7 node inverse", "node-:0", 1, 10 }, { "P8 choice", "next:10 next |", 0, 1 },
         { "P9 star in star", "next * *", 0, 0 }, { "P10 star outside", "next *", 12, 12 }, { "a strange term", "next", 200, 200 },
     };
-    for (int rings = 1; rings <= 65; rings += 64) {
-        site s = { .length = 0 };
-        for (int i = 0; i < rings; i++) {
-            int a = i ? 14 + 3 * i : 0;
-            add(&s, a, 10, a + 1);
-            add(&s, a + 1, 11, a + 2);
-            add(&s, a + 2, 10, a);
-        }
-        add(&s, 10, 12, 13);
-        add(&s, 11, 12, 13);
-        put_in_order(&s);
-        for (size_t i = 0; i < sizeof cases / sizeof *cases; i++) {
-            rule r = { .length = 0 };
-            append(&r, cases[i].rule);
-            give("depot", triples(&s), &s, &r, cases[i].start, cases[i].end, "%s", cases[i].name);
-        }
+    site s = { .length = 0 };
+    for (int i = 0; i < rings; i++) {
+        int a = i ? 14 + 3 * i : 0;
+        add(&s, a, 10, a + 1);
+        add(&s, a + 1, 11, a + 2);
+        add(&s, a + 2, 10, a);
     }
+    add(&s, 10, 12, 13);
+    add(&s, 11, 12, 13);
+    put_in_order(&s);
+    for (size_t i = 0; i < sizeof cases / sizeof *cases; i++) {
+        rule r = { .length = 0 };
+        append(&r, cases[i].rule);
+        give("depot", triples(&s), &s, &r, cases[i].start, cases[i].end, "%s", cases[i].name);
+    }
+}
+
+static void depots(void)
+{
+    depot(1);
+    depot(65);
 }
 
 /* Warehouses: floors of aisles and bays, lifts between the floors, and connections that are described by triples of their own */
@@ -193,6 +197,7 @@ typedef struct {
 } warehouse;
 
 static int bay(const warehouse *h, int floor, int aisle, int at) { return (floor * h->aisles + aisle) * h->bays + at; }
+static int far_bay(const warehouse *h) { return bay(h, h->floors - 1, h->aisles - 1, h->bays / 2); }
 static int allows_loads(int connection) { return connection % 4 != 3; }
 static int some_connection(const warehouse *h) { return h->first_connection + (int)roll((uint32_t)h->connections); }
 
@@ -279,9 +284,8 @@ static void warehouses(void)
         for (int w = 0; w < WAREHOUSE_RULES; w++) {
             rule r;
             warehouse_rule(&r, w);
-            int far = bay(&h, h.floors - 1, h.aisles - 1, h.bays / 2);
             const char *name = warehouse_rule_names[w];
-            give("warehouse", sizes[i], &s, &r, 0, far, "%s, across", name);
+            give("warehouse", sizes[i], &s, &r, 0, far_bay(&h), "%s, across", name);
             give("warehouse", sizes[i], &s, &r, 0, ISLE, "%s, no route", name);
             give("warehouse", sizes[i], &s, &r, 0, w == 4 ? LOADED : 1, "%s, next door", name);
         }
@@ -516,6 +520,37 @@ int families_slots(const families_input **inputs)
             warehouse_rule(&r, w);
             give("slots", 850, &s, &r, start, end, "%s", warehouse_rule_names[w]);
         }
+    *inputs = made;
+    return count;
+}
+
+/* Plain rules first, which the peers are made for; where nothing leads, all must be looked through. */
+int families_peers(const families_input **inputs)
+{
+    static const struct { const char *name, *rule; } plain[] = {
+        { "star", "next *" }, { "star of the inverse", "next- *" }, { "star of a name", "next:%d *" },
+        { "star of a choice", "next:%d next- | *" }, { "sequence", "next next / next:%d /" },
+    };
+    begin();
+    depot(1);
+    for (int size = 850; size <= 1024; size += 174) {
+        site s;
+        warehouse h;
+        state = 7;
+        warehouse_site(&s, &h, size);
+        for (size_t i = 0; i < sizeof plain / sizeof *plain; i++) {
+            rule r = { .length = 0 };
+            append(&r, plain[i].rule, LIFT);
+            give("warehouse", size, &s, &r, 0, far_bay(&h), "%s", plain[i].name);
+            if (i == 0) give("warehouse", size, &s, &r, 0, ISLE, "%s, no route", plain[i].name);
+        }
+        for (int w = 0; w < WAREHOUSE_RULES; w++) {
+            rule r;
+            warehouse_rule(&r, w);
+            give("warehouse", size, &s, &r, 0, w == 4 ? LOADED : far_bay(&h), "%s", warehouse_rule_names[w]);
+            if (w == 0) give("warehouse", size, &s, &r, 0, ISLE, "%s, no route", warehouse_rule_names[w]);
+        }
+    }
     *inputs = made;
     return count;
 }

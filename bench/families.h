@@ -1,5 +1,5 @@
 /* The inputs of the bench, in families; the same ones everywhere, since every draw comes from a fixed seed.
-   A further set, the slots, is many queries on one warehouse: what the latency sheet is drawn from. */
+   Two further sets: the slots, many queries on one warehouse, what the latency sheet is drawn from; and what the peers are asked. */
 #ifndef FAMILIES_H
 #define FAMILIES_H
 #include <stddef.h>
@@ -15,7 +15,8 @@ typedef struct {
     uint32_t start, end;
 } families_input;
 
-/* All inputs of the bench, or of the latency sheet; how many there are. */
+/* All inputs of the bench, of the latency sheet, or for the peers; how many there are. */
 int families_all(const families_input **inputs);
 int families_slots(const families_input **inputs);
+int families_peers(const families_input **inputs);
 #endif

@@ -1,4 +1,4 @@
-/* measure list|same|count|stack|time, a set of inputs and a side: one decision for each input of the set, on buffers made ready.
+/* measure list|bytes|same|count|stack|time|repeat, a set of inputs and a side: one call for each input of the set, on buffers made ready.
    Every line printed begins with the number of the input; under callgrind, count dumps one part for each. */
 #define _GNU_SOURCE
 #include "carolivy.h"
@@ -21,8 +21,13 @@ static int inputs;
 /* The lent buffers of each side; the room's contents beforehand show what is written. */
 static uint8_t asked[2][CAROLIVY_ASKED], pairs[CAROLIVY_NUMBERS], room_pairs[CAROLIVY_ROOM];
 static uint16_t numbers[CAROLIVY_NUMBERS / 2], room[CAROLIVY_ROOM / 2];
+static uint8_t third[2][CAROLIVY_THIRD];
 static carolivy_decision library;
+static carolivy_ends library_ends;
+static carolivy_starts library_starts;
 static yardstick_decision yardstick;
+static yardstick_ends ends;
+static yardstick_starts starts;
 
 static void make_ready(void)
 {
@@ -31,6 +36,7 @@ static void make_ready(void)
     memset(numbers, 0xa5, sizeof numbers);
     memset(room, 0xa5, sizeof room);
     memset(room_pairs, 0xa5, sizeof room_pairs);
+    memset(third, 0xa5, sizeof third);
 }
 
 /* What is counted. Each side is called the same way; the call of nothing is the count to take off. */
@@ -59,13 +65,41 @@ __attribute__((noinline)) void measured_yardstick(const families_input *i)
                                  asked[1], sizeof asked[1], numbers, CAROLIVY_NUMBERS / 2, room, CAROLIVY_ROOM / 2);
 }
 
+__attribute__((noinline)) void measured_library_ends(const families_input *i)
+{
+    library_ends = carolivy_list_ends(i->site, i->site_length, i->rule, i->rule_length, i->start,
+                                      asked[0], sizeof asked[0], pairs, sizeof pairs, third[0], sizeof third[0]);
+}
+
+__attribute__((noinline)) void measured_yardstick_ends(const families_input *i)
+{
+    ends = yardstick_list_ends(i->site, i->site_length, i->rule, i->rule_length, i->start,
+                               asked[1], sizeof asked[1], numbers, CAROLIVY_NUMBERS / 2, third[1], sizeof third[1]);
+}
+
+__attribute__((noinline)) void measured_library_starts(const families_input *i)
+{
+    library_starts = carolivy_list_starts(i->site, i->site_length, i->rule, i->rule_length, i->end,
+                                          asked[0], sizeof asked[0], pairs, sizeof pairs, third[0], sizeof third[0]);
+}
+
+__attribute__((noinline)) void measured_yardstick_starts(const families_input *i)
+{
+    starts = yardstick_list_starts(i->site, i->site_length, i->rule, i->rule_length, i->end,
+                                   asked[1], sizeof asked[1], numbers, CAROLIVY_NUMBERS / 2, third[1], sizeof third[1]);
+}
+
 typedef void (*side)(const families_input *);
 
 static side side_named(const char *name)
 {
-    if (strcmp(name, "library") == 0) return measured_library;
-    if (strcmp(name, "yardstick") == 0) return measured_yardstick;
-    if (strcmp(name, "nothing") == 0) return measured_nothing;
+    static const struct { const char *name; side call; } sides[] = {
+        { "nothing", measured_nothing }, { "library", measured_library }, { "yardstick", measured_yardstick },
+        { "library_ends", measured_library_ends }, { "yardstick_ends", measured_yardstick_ends },
+        { "library_starts", measured_library_starts }, { "yardstick_starts", measured_yardstick_starts },
+    };
+    for (size_t i = 0; i < sizeof sides / sizeof *sides; i++)
+        if (strcmp(name, sides[i].name) == 0) return sides[i].call;
     fprintf(stderr, "measure: no side %s\n", name);
     exit(2);
 }
@@ -87,6 +121,24 @@ static void list(void)
     }
 }
 
+/* bytes: the site, the rule */
+
+static void print_bytes(const uint8_t *bytes, size_t length)
+{
+    putchar(',');
+    for (size_t i = 0; i < length; i++) printf("%02x", bytes[i]);
+}
+
+static void bytes(void)
+{
+    for (int i = 0; i < inputs; i++) {
+        printf("%d", i);
+        print_bytes(in[i].site, in[i].site_length);
+        print_bytes(in[i].rule, in[i].rule_length);
+        putchar('\n');
+    }
+}
+
 /* same: both sides on every input, all that comes back compared */
 
 static int pair_differs(const uint8_t *bytes, const uint16_t *native, size_t length)
@@ -94,6 +146,24 @@ static int pair_differs(const uint8_t *bytes, const uint16_t *native, size_t len
     for (size_t i = 0; i < length; i++)
         if (bytes[2 * i] * 256 + bytes[2 * i + 1] != native[i]) return 1;
     return 0;
+}
+
+static int tables_differ(void)
+{
+    return memcmp(asked[0], asked[1], sizeof asked[0]) || pair_differs(pairs, numbers, CAROLIVY_NUMBERS / 2) || memcmp(third[0], third[1], sizeof third[0]);
+}
+
+static const char *list_that_differs(const families_input *i)
+{
+    make_ready();
+    measured_library_ends(i);
+    measured_yardstick_ends(i);
+    if (library_ends.refusal != ends.refusal || library_ends.ends != ends.ends || library_ends.figure != ends.figure || tables_differ()) return "list of ends";
+    make_ready();
+    measured_library_starts(i);
+    measured_yardstick_starts(i);
+    if (library_starts.refusal != starts.refusal || library_starts.starts != starts.starts || tables_differ()) return "list of starts";
+    return NULL;
 }
 
 static int same(void)
@@ -110,6 +180,7 @@ static int same(void)
         else if (memcmp(asked[0], asked[1], sizeof asked[0])) what = "byte table";
         else if (pair_differs(pairs, numbers, CAROLIVY_NUMBERS / 2)) what = "number table";
         else if (pair_differs(room_pairs, room, CAROLIVY_ROOM / 2)) what = "path";
+        else what = list_that_differs(&in[i]);
         if (!what) continue;
         printf("%d: %s, %d, %s: the %s differs\n", i, in[i].family, in[i].size, in[i].name, what);
         differ++;
@@ -158,32 +229,60 @@ static void stack(side call)
 }
 
 /* time: nanoseconds of one call, once, after one that warms the caches */
+
+static long nanoseconds(clockid_t clock, side call, const families_input *i)
+{
+    struct timespec from, to;
+    clock_gettime(clock, &from);
+    call(i);
+    clock_gettime(clock, &to);
+    return (to.tv_sec - from.tv_sec) * 1000000000L + to.tv_nsec - from.tv_nsec;
+}
+
 static void clock_calls(side call)
 {
     for (int i = 0; i < inputs; i++) {
-        struct timespec from, to;
         make_ready();
         call(&in[i]);
         make_ready();
-        clock_gettime(CLOCK_MONOTONIC, &from);
-        call(&in[i]);
-        clock_gettime(CLOCK_MONOTONIC, &to);
-        printf("%d,%ld\n", i, (to.tv_sec - from.tv_sec) * 1000000000L + to.tv_nsec - from.tv_nsec);
+        printf("%d,%ld\n", i, nanoseconds(CLOCK_MONOTONIC, call, &in[i]));
+    }
+}
+
+/* repeat: nanoseconds on the processor, of the quickest and of the middle one of many calls, and how many */
+
+enum { CALLS = 2001 };
+
+static int by_size(const void *a, const void *b) { return (*(const long *)a > *(const long *)b) - (*(const long *)a < *(const long *)b); }
+
+static void repeat(side call)
+{
+    static long took[CALLS];
+    for (int i = 0; i < inputs; i++) {
+        for (int n = 0; n < CALLS / 10; n++) call(&in[i]);
+        for (int n = 0; n < CALLS; n++) {
+            make_ready();
+            took[n] = nanoseconds(CLOCK_THREAD_CPUTIME_ID, call, &in[i]);
+        }
+        qsort(took, CALLS, sizeof *took, by_size);
+        printf("%d,%ld,%ld,%d\n", i, took[0], took[CALLS / 2], CALLS);
     }
 }
 
 int main(int words, char **word)
 {
     if (words < 3 || words > 4) {
-        fprintf(stderr, "usage: measure list|same SET, or measure count|stack|time SET SIDE; SET is families or slots, SIDE library or yardstick\n");
+        fprintf(stderr, "usage: measure list|bytes|same SET, or measure count|stack|time|repeat SET SIDE; SET is families, slots or peers, SIDE library or yardstick, or one of these with _ends or _starts\n");
         return 2;
     }
-    inputs = strcmp(word[2], "slots") == 0 ? families_slots(&in) : families_all(&in);
+    inputs = strcmp(word[2], "slots") == 0 ? families_slots(&in) : strcmp(word[2], "peers") == 0 ? families_peers(&in) : families_all(&in);
     if (strcmp(word[1], "list") == 0) list();
+    else if (strcmp(word[1], "bytes") == 0) bytes();
     else if (strcmp(word[1], "same") == 0) return same();
     else if (words == 4 && strcmp(word[1], "count") == 0) count(side_named(word[3]));
     else if (words == 4 && strcmp(word[1], "stack") == 0) stack(side_named(word[3]));
     else if (words == 4 && strcmp(word[1], "time") == 0) clock_calls(side_named(word[3]));
+    else if (words == 4 && strcmp(word[1], "repeat") == 0) repeat(side_named(word[3]));
     else return 2;
     return 0;
 }

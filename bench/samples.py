@@ -5,9 +5,12 @@ import os
 
 
 def counts(path):
-    """Instructions of each input, from callgrind's parts: the part named by an input's number holds its call alone."""
-    found, name = {}, None
-    for line in open(path):
+    """Instructions of each input. Of callgrind's parts, that named by an input's number holds its call alone; of the plugin's lines,
+    one a call, the first is of the call that comes before all inputs."""
+    lines, found, name = open(path).read().splitlines(), {}, None
+    if lines and lines[0].isdigit():
+        return dict(enumerate(map(int, lines[1:])))
+    for line in lines:
         if line.startswith("desc: Trigger: Client Request: "):
             name = line.rsplit(": ", 1)[1].strip()
         elif line.startswith("summary: ") and name is not None:
