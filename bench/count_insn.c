@@ -26,7 +26,7 @@ static uint64_t from, to, count;
 static bool inside;
 static FILE *out;
 
-/* Each instruction by itself: a block that would reach into another page is cut short after its length was told. */
+/* Each instruction by itself: counted by blocks as they were translated, the sum came out too high. */
 typedef enum { FIRST, LAST, OTHER } place;
 static place places[] = { FIRST, LAST, OTHER };
 

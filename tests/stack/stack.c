@@ -91,8 +91,8 @@ static size_t taken(int which, ceiling_call *of)
     return deepest(which) - empty + RETURN_ADDRESS;
 }
 
-/* Rules of 32 records that nest as deep as they can: first operands in first operands, second in second, tests in tests,
-   and stars under the second operand of a join, which is where the reader recurses deepest. */
+/* Rules of 32 records that nest as deep as they can: first operands in first operands, second in second, which is where the
+   reader recurses deepest, tests in tests, and stars under the second operand of a join. */
 enum { WAYS = 4 };
 static void add(int kind, int times)
 {

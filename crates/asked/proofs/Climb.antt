@@ -6,23 +6,20 @@ use mathlib.Core.Bool.{Bool}
 use mathlib.Core.Logic.{_⊎_, inl, inr, ⊎-elim, _≢_}
 use mathlib.Core.List.{List}
 use native.Mathlib.Omega.{arith}
-use native.Mathlib.Decide.{ℕ-discrete}
 use lib.ListN.{length, getD}
-use lib.Dec.{eqb}
-use borrow.Author.Tests.{eq-eqb, eqb-true}
 use Rattle.meaning.specs.Limits.{terms, records}
 use Rattle.meaning.specs.Site.{Site}
 use Rattle.meaning.specs.Fewest.{Goal}
-use Rattle.fewest.specs.Frame.{as-whole, as-test, as-first, as-last, as-round, Climbs, Frame, frame}
-use Rattle.fewest.specs.Next.{Next, on, out, again, ending, Home, whole, out, ending}
+use Rattle.fewest.specs.Frame.{as-whole, as-test, as-first, as-round, Climbs, Frame, frame}
+use Rattle.fewest.specs.Next.{Next, on, again, ending, Home, whole, ending}
 use Rattle.fewest.specs.Offer.{Work}
 use Rattle.fewest.specs.Sweep.{Swept}
+use Rattle.fewest.proofs.Nexts.{Says-next, Says-home, next-says, home-says}
 use Rattle.fewest.proofs.Sweeps.{swept-none, swept-then, swept-weaken}
 use Rattle.asked.specs.Mark.{Marks, marks, Marked, blanks, Done, follows, Marking}
-use Rattle.asked.specs.Seek.{Whole, Bits, OneMarked, MarkedIf, OneArrived, AllNext, Followed-up}
-use Rattle.asked.proofs.Following.{Says-next, Says-home, next-says, home-says}
+use Rattle.asked.specs.Seek.{Whole, Bits, OneMarked, OneArrived, AllNext, Followed-up}
 use Rattle.asked.proofs.Marking.{done-keeps, marking-chain, marking-keeps}
-use Rattle.asked.proofs.OneMark.{if-whole, if-bits, swept-one, swept-if, swept-home}
+use Rattle.asked.proofs.OneMark.{one-whole, one-bits, swept-one, swept-home}
 
 -- of what follows record r at u, what is unmarked follows record `at`
 pub record Owed (F : Frame) (r u at : ℕ) (M : Marks) : Type 0 where
@@ -40,30 +37,12 @@ pub record Climbed (up role : List ℕ) (r u at : ℕ) (b₀ ends₀ b ends : Li
   pub swept : (s : Site) (g : Goal) (T : List ℕ) (w : Work) → Done (frame s up role g) T (marks b₀ ends₀) r u w →
       Swept blanks (Marking (frame s up role g) T w r) (Owed (frame s up role g) r u at) (marks b₀ ends₀) (marks b ends) was more
 
--- one record up: what follows the parent follows the record, and nothing else does but a round once more
-record Up (F : Frame) (at : ℕ) : Type 0 where
-  more : (b : ℕ) → Next F (getD (F .up) at 0) b → Next F at b
-  less : (b : ℕ) → Next F at b → ((getD (F .role) at 0 ≡ as-round) × (b ≡ at)) ⊎ Next F (getD (F .up) at 0) b
-  home-more : Home F (getD (F .up) at 0) → Home F at
-  home-less : Home F at → Home F (getD (F .up) at 0)
-
 module _ {F : Frame} {at : ℕ} where
-  says : {b : ℕ} (k : ℕ) → getD (F .role) at 0 ≡ k → Next F at b → Says-next F at (getD (F .up) at 0) b k
-  says {b} k q n = subst (λ k. Says-next F at (getD (F .up) at 0) b k) q (next-says n)
+  says : {b : ℕ} (k : ℕ) → getD (F .role) at 0 ≡ k → Next F at b → Says-next F (getD (F .up) at 0) b k
+  says {b} k q n = subst (λ k. Says-next F (getD (F .up) at 0) b k) q (next-says n)
 
   says-end : (k : ℕ) → getD (F .role) at 0 ≡ k → Home F at → Says-home F (getD (F .up) at 0) k
   says-end k q n = subst (λ k. Says-home F (getD (F .up) at 0) k) q (home-says n)
-
-  up-last : getD (F .role) at 0 ≡ as-last → Up F at
-  up-last q = record { more = λ b. out q; less = λ b n. inr (says as-last q n); home-more = out q; home-less = says-end as-last q }
-
-  up-round : getD (F .role) at 0 ≡ as-round → Up F at
-  up-round q = record {
-    more = λ b. ending q;
-    less = λ b n. ⊎-elim (λ e. inl (q, e)) inr (says as-round q n);
-    home-more = ending q;
-    home-less = says-end as-round q;
-  }
 
 module _ {up role : List ℕ} {u : ℕ} {b₀ ends₀ : List ℕ} {was : Bool} where
   pub climb-begins : {r : ℕ} → r < records → Whole b₀ → Bits b₀ → Climbed up role r u r b₀ ends₀ b₀ ends₀ was was
@@ -112,28 +91,24 @@ module _ {up role : List ℕ} {u : ℕ} {b₀ ends₀ : List ℕ} {was : Bool} w
         ends-by d (λ x n done. rw (says as-first q n) done) (λ o _. absurd (says-end as-first q o))
         (swept-one (climb .bits) one (climb .whole) h k (follows (still d) (climb .onward s g _ (on q))))
 
-    -- One record up, where the role is none of these.
+    -- One star up, where the role is none of these: its operand is asked again.
     pub climb-up : {b′ : List ℕ} {now : Bool} → Climbs records up role → u < terms → getD role at 0 ≢ as-whole → getD role at 0 ≢ as-test →
-        getD role at 0 ≢ as-first → MarkedIf (eqb (getD role at 0) as-round) at u b b′ more now →
-        Climbed up role r u (getD up at 0) b₀ ends₀ b′ ends was now
-    climb-up {b′} {now} climbs k x y z m = record {
-      inside = climbs .higher at (climb .inside) x .1;
-      whole = if-whole (climb .bits) _ m (climb .whole);
-      bits = if-bits (climb .bits) _ m;
-      lent = climb .lent;
-      onward = λ s g q n. climb .onward s g q (one-up .more q n);
-      homeward = λ s g o. climb .homeward s g (one-up .home-more o);
-      swept = λ s g T w d. swept-weaken
-          (λ (owed, round). record {
-            next = λ q n. ⊎-elim inl
-                (λ n. ⊎-elim (λ (e, same). inl (rw same (round (eq-eqb _ _ e)))) inr (one-up .less q n)) (owed .next q n);
-            home = λ o. one-up .home-less (owed .home o);
-          })
-          (swept-then marking-chain (climb .swept s g T w d)
-          (swept-if (climb .bits) (eqb (getD role at 0) as-round) m (climb .whole) (climb .inside) k
-          (λ e. follows (still d) (climb .onward s g at (again (eqb-true _ _ e))))));
-    }
-      where
-        one-up : {s : Site} {g : Goal} → Up (frame s up role g) at
-        one-up = let h = climbs .known at (climb .inside) in
-            elim (ℕ-discrete (getD role at 0) as-round) [ yes q ↦ up-round q | no q ↦ up-last (omega arith) ]
+        getD role at 0 ≢ as-first → OneMarked (getD up at 0 - 1) u b b′ more now → Climbed up role r u (getD up at 0) b₀ ends₀ b′ ends was now
+    climb-up climbs k x y z one =
+        let known = climbs .known at (climb .inside) in
+        let (later, h) = climbs .higher at (climb .inside) x in
+        let q : getD role at 0 ≡ as-round = omega arith in record {
+          inside = h;
+          whole = one-whole (climb .bits) one (climb .whole);
+          bits = one-bits (climb .bits) one;
+          lent = climb .lent;
+          onward = λ s g c n. climb .onward s g c (ending q n);
+          homeward = λ s g o. climb .homeward s g (ending q o);
+          swept = λ s g T w d. swept-weaken
+              (λ (owed, round). record {
+                next = λ c n. ⊎-elim inl (λ n. ⊎-elim (λ e. inl (rw e round)) inr (says as-round q n)) (owed .next c n);
+                home = λ o. says-end as-round q (owed .home o);
+              })
+              (swept-then marking-chain (climb .swept s g T w d)
+              (swept-one (climb .bits) one (climb .whole) (omega arith) k (follows (still d) (climb .onward s g _ (again q)))));
+        }

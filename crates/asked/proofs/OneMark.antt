@@ -84,10 +84,6 @@ module _ {r t : ℕ} {b b′ : List ℕ} {was more : Bool} (bits : Bits b) where
   if-whole true m h = one-whole bits (m .marked refl) h
   if-whole false m h = rw (m .left refl .0) h
 
-  pub if-bits : (p : Bool) → MarkedIf p r t b b′ was more → Bits b′
-  if-bits true m = one-bits bits (m .marked refl)
-  if-bits false m = rw (m .left refl .0) bits
-
   pub swept-if : {F : Frame} {T : List ℕ} {w : Work} {q : ℕ} {ends : List ℕ} (p : Bool) → MarkedIf p r t b b′ was more → Whole b →
       r < records → t < terms → (p ≡ true → Asking F T (marks b ends) q r t w) →
       Swept blanks (Marking F T w q) (λ X. p ≡ true → Marked X r t) (marks b ends) (marks b′ ends) was more

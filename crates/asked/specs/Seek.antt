@@ -15,12 +15,14 @@ use Rattle.records.specs.declared.Label.the-variants.{Any, Term, Test}
 use Rattle.records.specs.declared.Step.{Step}
 use Rattle.records.specs.declared.Record.{Record}
 use Rattle.records.specs.Sites.{Accepted, siteOf}
+use Rattle.records.specs.Words.{WordsOf}
 use Rattle.records.specs.Rules.{lastAxis, axisNumbered, recOf, recordsOf}
+use Rattle.fewest.specs.declared.look.Parts.{Parts}
 use Rattle.fewest.specs.Frame.{Frame, frame}
 use Rattle.fewest.specs.Next.{Next, Home}
 use Rattle.fewest.specs.Offer.{place, view, Work, stepping, copying, resting, worksOf}
 use Rattle.fewest.specs.Sweep.{Swept}
-use Rattle.fewest.specs.Work.{workOf, allowing, MayRest, New, WorksSwept}
+use Rattle.fewest.specs.Work.{workOf, allowing, partsOf, MayRest, WorksSwept}
 use Rattle.asked.specs.Mark.{Marks, marks, blanks, Marked, Done, Marking, Calm, Marks-on, Marked-out, Marked-from}
 
 -- the byte table has its length
@@ -82,13 +84,12 @@ Pursued up role T l r t i u M M′ was more =
     (s : meant.Site) (g : Goal) (w : Work) → Goes s l w t i u →
     Swept blanks (Marking (frame s up role g) T w r) (CalmBy (frame s up role g) T l r t i u) M M′ was more
 
--- a look at triple k for a step of record r whose axis takes triples
-abbrev pub Sought : List ℕ → ℕ → Step → List ℕ → List ℕ → List ℕ → ℕ → Marks → Marks → Bool → Bool → Type 0
-Sought b k x up role T r M M′ was more =
-    (n : ℕ) (g : Goal) → Accepted b n → k < n → x .axis ≢ 0 → x .axis ≤ lastAxis →
-    Swept blanks (Marking (frame (siteOf b n) up role g) T (workOf (axisNumbered (x .axis)) (x .label)) r)
-    (λ X. (t i u : ℕ) → Move (siteOf b n) (axisNumbered (x .axis)) any k t i u → CalmBy (frame (siteOf b n) up role g) T (x .label) r t i u X)
-    M M′ was more
+-- a look at triple k for a step of record r with this label, by any axis that takes triples and takes their terms so
+abbrev pub Sought : List ℕ → ℕ → Parts → Label → List ℕ → List ℕ → List ℕ → ℕ → Marks → Marks → Bool → Bool → Type 0
+Sought b k p l up role T r M M′ was more =
+    (n a : ℕ) (g : Goal) → Accepted b n → k < n → p ≡ partsOf a → a ≢ 0 → a ≤ lastAxis →
+    Swept blanks (Marking (frame (siteOf b n) up role g) T (workOf (axisNumbered a) l) r)
+    (λ X. (t i u : ℕ) → Move (siteOf b n) (axisNumbered a) any k t i u → CalmBy (frame (siteOf b n) up role g) T l r t i u X) M M′ was more
 
 -- staying at t was looked at: as a star's empty round, and as a self step
 pub record Rested (up role T : List ℕ) (l : Label) (r t : ℕ) (M M′ : Marks) (was more : Bool) : Type 0 where
@@ -108,25 +109,6 @@ pub data Stay : Label → Work → Type 0 where
   as-empty : Stay Any resting
   as-step : {l : Label} → Stay l (workOf self l)
 
--- staying at t, which stands in triple number k, was looked at, or t stands in a triple before it
-abbrev pub RestedNew : List ℕ → ℕ → List ℕ → List ℕ → List ℕ → Label → (r t : ℕ) → Marks → Marks → Bool → Bool → Type 0
-RestedNew b k up role T l r t M M′ was more =
-    (n : ℕ) (w : Work) (g : Goal) → Accepted b n → k < n → Stay l w → meant.Voc (siteOf b n) t →
-    Swept blanks (Marking (frame (siteOf b n) up role g) T w r) (λ X. New (siteOf b n) (CalmBy (frame (siteOf b n) up role g) T l r t t t X) k t) M M′ was more
-
--- what is asked for by staying at the ends of triple number k is marked, where they are new
-abbrev pub AtEnds : Frame → List ℕ → Label → ℕ → ℕ → Marks → Type 0
-AtEnds F T l r k X =
-    let x = meant.triple (F .site) k in
-    New (F .site) (CalmBy F T l r (x .subject) (x .subject) (x .subject) X) k (x .subject) ×
-    New (F .site) (CalmBy F T l r (x .object) (x .object) (x .object) X) k (x .object)
-
--- staying at both was looked at
-abbrev pub RestedBy : List ℕ → ℕ → List ℕ → List ℕ → List ℕ → Label → ℕ → Marks → Marks → Bool → Bool → Type 0
-RestedBy b k up role T l r M M′ was more =
-    (n : ℕ) (w : Work) (g : Goal) → Accepted b n → k < n → Stay l w →
-    Swept blanks (Marking (frame (siteOf b n) up role g) T w r) (AtEnds (frame (siteOf b n) up role g) T l r k) M M′ was more
-
 -- this work's whole row was looked at
 abbrev pub WorkSought : Frame → List ℕ → Work → ℕ → Marks → Marks → Bool → Bool → Type 0
 WorkSought F T w r M M′ was more = Swept blanks (Marking F T w r) (Calm F T w r) M M′ was more
@@ -135,9 +117,14 @@ WorkSought F T w r M M′ was more = Swept blanks (Marking F T w r) (Calm F T w 
 abbrev pub RowSought : ℕ → ℕ → List ℕ → List ℕ → Bool → Bool → Type 0
 RowSought a r b b′ was more = (F : Frame) (T ends : List ℕ) → WorkSought F T (copying a) r (marks b ends) (marks b′ ends) was more
 
-abbrev pub RestsSought : List ℕ → ℕ → List ℕ → List ℕ → List ℕ → Label → ℕ → Marks → Marks → Bool → Bool → Type 0
-RestsSought b n up role T l r M M′ was more =
-    (w : Work) (g : Goal) → Stay l w → WorkSought (frame (siteOf b n) up role g) T w r M M′ was more
+-- the table is the vocabulary of some site
+abbrev pub Words : List ℕ → Type 0
+Words words = (s : meant.Site) × WordsOf s words
+
+-- staying at each vocabulary term was looked at, where the words are the site's
+abbrev pub RestsSought : List ℕ → List ℕ → List ℕ → List ℕ → Label → ℕ → Marks → Marks → Bool → Bool → Type 0
+RestsSought words up role T l r M M′ was more =
+    (s : meant.Site) (w : Work) (g : Goal) → WordsOf s words → Stay l w → WorkSought (frame s up role g) T w r M M′ was more
 
 abbrev pub StepSought : List ℕ → ℕ → Step → List ℕ → List ℕ → List ℕ → ℕ → Marks → Marks → Bool → Bool → Type 0
 StepSought b n x up role T r M M′ was more =

@@ -6,7 +6,9 @@ use crate::seek::rest;
 use crate::seek::seek;
 use fewest::cells::cell;
 use fewest::cells::put_cell;
-use fewest::look::by_axis;
+use fewest::look::Parts;
+use fewest::look::move_at;
+use fewest::look::parts_of;
 use fewest::threads::FREE;
 use fewest::threads::first_from;
 use fewest::threads::next_from;
@@ -16,7 +18,7 @@ use records::RECORDS;
 use records::Record;
 use records::Step;
 use records::TERMS;
-use records::rule::record_at;
+use records::rule::record_of;
 use records::site::triple_at;
 ghost use mathlib.Core.Path.{_≡_};
 ghost use mathlib.Core.Logic.{_≢_};
@@ -28,7 +30,7 @@ ghost use Rattle.fewest.specs.Lows.{lows};
 ghost use Rattle.fewest.specs.Pairs.{pairs};
 ghost use Rattle.fewest.specs.Frame.{Climbs};
 ghost use Rattle.fewest.specs.Table.{Full};
-ghost use Rattle.fewest.specs.Work.{Tests, Has, Sits, Ready};
+ghost use Rattle.fewest.specs.Work.{Tests, partsOf, Axial, Has, Sits, Ready};
 ghost use Rattle.asked.specs.Mark.{marks};
 ghost use Rattle.asked.specs.Seek.{Whole, Bits};
 ghost use Rattle.asked.specs.Chase.{StepChased, RestChased, StayChased, RecordChased, Chased};
@@ -68,14 +70,24 @@ fn clear_waiting(asked: &mut [u8])
     }
 }
 
-// The middle and the end of triple k wait, where the axis may have marked something.
-fn push_by(site: &[u8], k: usize, axis: usize, asked: &mut [u8], tail: usize) -> usize
-    requires { ⌜ Has (now site) k ⌝ }
+// The end of triple k waits, where something may have been marked; and its middle, if the label is a test: nothing else is marked there.
+fn push_by(
+    site: &[u8],
+    k: usize,
+    parts: Parts,
+    label: Label,
+    asked: &mut [u8],
+    tail: usize,
+) -> usize
+    requires { ⌜ Has (now site) k × Axial parts ⌝ }
     ensures { λ _. ⌜ lows (now (asked .exit)) ≡ lows (now (asked .entry)) ⌝ }
 {
-    let m = by_axis(axis, triple_at(site, k));
-    let one = push(asked, tail, m.middle);
-    push(asked, one, m.to)
+    let m = move_at(site, k, parts);
+    if let Label::Test = label {
+        let one = push(asked, tail, m.middle);
+        return push(asked, one, m.to);
+    }
+    push(asked, tail, m.to)
 }
 
 // Triple k for the step of record r, whose axis takes triples.
@@ -84,6 +96,7 @@ fn go<'a>(
     triples: usize,
     k: usize,
     step: Step,
+    parts: Parts,
     up: &'a [u8; RECORDS],
     role: &'a [u8; RECORDS],
     numbers: &[u8],
@@ -92,11 +105,24 @@ fn go<'a>(
     r: usize,
     tail: usize,
 ) -> usize
-    requires { ⌜ Accepted (now site) triples × (k < triples) × Full (now numbers) × Climbs records (now up) (now role) × Whole (lows (now asked)) × Bits (now ends) × (r < records) × Tests (step .label) r × (step .axis ≢ 0) × (step .axis ≤ lastAxis) ⌝ }
+    requires { ⌜ Accepted (now site) triples × (k < triples) × Full (now numbers) × Climbs records (now up) (now role) × Whole (lows (now asked)) × Bits (now ends) × (r < records) × Tests (step .label) r × (step .axis ≢ 0) × (step .axis ≤ lastAxis) × (parts ≡ partsOf (step .axis)) ⌝ }
     ensures { λ _. ⌜ StepChased (now (site .entry)) triples step (now (up .entry)) (now (role .entry)) (pairs (now (numbers .entry))) r (marks (lows (now (asked .entry))) (now (ends .entry))) (marks (lows (now (asked .exit))) (now (ends .exit))) ⌝ }
 {
-    if seek(site, k, step, up, role, numbers, asked, ends, r, false) {
-        return push_by(site, k, step.axis, asked, tail);
+    let label = step.label;
+    if seek(
+        site,
+        k,
+        parts,
+        label,
+        up,
+        role,
+        numbers,
+        asked,
+        ends,
+        r,
+        false,
+    ) {
+        return push_by(site, k, parts, label, asked, tail);
     }
     tail
 }
@@ -119,6 +145,7 @@ fn go_all<'a>(
     ensures { λ _. ⌜ StepChased (now (site .entry)) triples step (now (up .entry)) (now (role .entry)) (pairs (now (numbers .entry))) r (marks (lows (now (asked .entry))) (now (ends .entry))) (marks (lows (now (asked .exit))) (now (ends .exit))) ⌝ }
 {
     let axis = step.axis;
+    let parts = parts_of(axis);
     let mut tail = was;
     let mut k = first_from(asked, axis, t);
     while k < triples {
@@ -127,6 +154,7 @@ fn go_all<'a>(
             triples,
             k,
             step,
+            parts,
             up,
             role,
             numbers,
@@ -311,7 +339,7 @@ fn ask_one<'a>(
     site: &[u8],
     triples: usize,
     rule: &[u8],
-    starts: &[usize; RECORDS],
+    starts: &[u8; RECORDS],
     count: usize,
     up: &'a [u8; RECORDS],
     role: &'a [u8; RECORDS],
@@ -327,7 +355,7 @@ fn ask_one<'a>(
     ensures { λ _. ⌜ Chased (now (site .entry)) triples (now (rule .entry)) (now (up .entry)) (now (role .entry)) (now (first .entry)) (pairs (now (numbers .entry))) (marks (lows (now (asked .entry))) (now (ends .entry))) (marks (lows (now (asked .exit))) (now (ends .exit))) ⌝ }
 {
     if take_up(asked, r, t) {
-        let rec = record_at(rule, starts[r]);
+        let rec = record_of(rule, starts, r);
         let operand = first[r] as usize;
         return ask_on(
             site,
@@ -352,7 +380,7 @@ fn ask_at<'a>(
     site: &[u8],
     triples: usize,
     rule: &[u8],
-    starts: &[usize; RECORDS],
+    starts: &[u8; RECORDS],
     count: usize,
     up: &'a [u8; RECORDS],
     role: &'a [u8; RECORDS],
@@ -395,7 +423,7 @@ fn serve<'a>(
     site: &[u8],
     triples: usize,
     rule: &[u8],
-    starts: &[usize; RECORDS],
+    starts: &[u8; RECORDS],
     count: usize,
     up: &'a [u8; RECORDS],
     role: &'a [u8; RECORDS],
@@ -436,7 +464,7 @@ pub fn chase<'a>(
     site: &[u8],
     triples: usize,
     rule: &[u8],
-    starts: &[usize; RECORDS],
+    starts: &[u8; RECORDS],
     count: usize,
     up: &'a [u8; RECORDS],
     role: &'a [u8; RECORDS],

@@ -2,30 +2,18 @@
 use crate::mark::arrive;
 use crate::mark::mark;
 use fewest::links::AS_FIRST;
-use fewest::links::AS_ROUND;
 use fewest::links::AS_TEST;
 use fewest::links::AS_WHOLE;
 use records::RECORDS;
 ghost use Prim.Native.Nat.{_<_};
-ghost use lib.Dec.{eqb};
 ghost use Rattle.meaning.specs.Limits.{terms, records};
-ghost use Rattle.fewest.specs.Frame.{as-round, Climbs};
+ghost use Rattle.fewest.specs.Frame.{Climbs};
 ghost use Rattle.fewest.specs.Lows.{lows};
 ghost use Rattle.asked.specs.Mark.{marks};
-ghost use Rattle.asked.specs.Seek.{Whole, Bits, MarkedIf, Followed-up};
+ghost use Rattle.asked.specs.Seek.{Whole, Bits, Followed-up};
 
-// A star's operand is asked again where it is done.
-fn again(asked: &mut [u8], stands: u8, r: usize, u: usize, was: bool) -> bool
-    requires { ⌜ Whole (lows (now asked)) × (r < records) × (u < terms) ⌝ }
-    ensures { λ more. ⌜ MarkedIf (eqb stands as-round) r u (lows (now (asked .entry))) (lows (now (asked .exit))) was more ⌝ }
-{
-    if stands == AS_ROUND {
-        return mark(asked, r, u, was);
-    }
-    was
-}
-
-// Where record r's expression is done at u, what follows is marked.
+// Where record r's expression is done at u, what follows is marked: the second of a sequence, or a star's operand once more, is the
+// record before it.
 pub fn follow<'a>(
     up: &'a [u8; RECORDS],
     role: &'a [u8; RECORDS],
@@ -49,10 +37,10 @@ pub fn follow<'a>(
             return more;
         }
         let above = up[at] as usize;
+        more = mark(asked, above - 1, u, more);
         if stands == AS_FIRST {
-            return mark(asked, above - 1, u, more);
+            return more;
         }
-        more = again(asked, stands, at, u, more);
         at = above;
     }
 }

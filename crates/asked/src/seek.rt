@@ -2,19 +2,18 @@
 use crate::follow::follow;
 use crate::mark::is_marked;
 use crate::mark::mark;
+use fewest::look::Parts;
 use fewest::look::allows;
-use fewest::look::by_axis;
+use fewest::look::move_at;
 use records::Label;
 use records::RECORDS;
-use records::Step;
-use records::site::triple_at;
 ghost use Prim.Native.Nat.{_-_, _<_};
 ghost use Rattle.meaning.specs.Limits.{terms, records};
 ghost use Rattle.fewest.specs.Lows.{lows};
 ghost use Rattle.fewest.specs.Pairs.{pairs};
 ghost use Rattle.fewest.specs.Frame.{Climbs};
 ghost use Rattle.fewest.specs.Table.{Full};
-ghost use Rattle.fewest.specs.Work.{Tests, Has};
+ghost use Rattle.fewest.specs.Work.{Tests, Axial, Has};
 ghost use Rattle.asked.specs.Mark.{marks};
 ghost use Rattle.asked.specs.Seek.{Whole, Bits, MarkedIf, Entered, isTest, Pursued, Sought, Rested};
 
@@ -73,7 +72,8 @@ fn pursue<'a>(
 pub fn seek<'a>(
     site: &[u8],
     k: usize,
-    step: Step,
+    parts: Parts,
+    label: Label,
     up: &'a [u8; RECORDS],
     role: &'a [u8; RECORDS],
     numbers: &[u8],
@@ -82,12 +82,10 @@ pub fn seek<'a>(
     r: usize,
     was: bool,
 ) -> bool
-    requires { ⌜ Has (now site) k × Full (now numbers) × Climbs records (now up) (now role) × Whole (lows (now asked)) × Bits (now ends) × (r < records) × Tests (step .label) r ⌝ }
-    ensures { λ more. ⌜ Sought (now (site .entry)) k step (now (up .entry)) (now (role .entry)) (pairs (now (numbers .entry))) r (marks (lows (now (asked .entry))) (now (ends .entry))) (marks (lows (now (asked .exit))) (now (ends .exit))) was more ⌝ }
+    requires { ⌜ Has (now site) k × Full (now numbers) × Climbs records (now up) (now role) × Whole (lows (now asked)) × Bits (now ends) × (r < records) × Tests label r × Axial parts ⌝ }
+    ensures { λ more. ⌜ Sought (now (site .entry)) k parts label (now (up .entry)) (now (role .entry)) (pairs (now (numbers .entry))) r (marks (lows (now (asked .entry))) (now (ends .entry))) (marks (lows (now (asked .exit))) (now (ends .exit))) was more ⌝ }
 {
-    let axis = step.axis;
-    let label = step.label;
-    let m = by_axis(axis, triple_at(site, k));
+    let m = move_at(site, k, parts);
     pursue(
         up,
         role,

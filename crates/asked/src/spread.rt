@@ -4,30 +4,28 @@ use crate::mark::mark;
 use crate::seek::enter;
 use crate::seek::rest;
 use crate::seek::seek;
-use fewest::sweep::stands_earlier;
-use fewest::threads::first_object;
-use fewest::threads::first_subject;
+use fewest::look::parts_of;
 use records::Label;
 use records::RECORDS;
 use records::Record;
 use records::Step;
 use records::TERMS;
-use records::rule::record_at;
-use records::site::triple_at;
+use records::rule::record_of;
 ghost use mathlib.Core.Path.{_≡_};
 ghost use mathlib.Core.Logic.{_≢_};
 ghost use Prim.Native.Nat.{_*_, _<_, _≤_};
 ghost use lib.ListN.{length, replicate};
 ghost use Rattle.meaning.specs.Limits.{terms, records};
-ghost use Rattle.records.specs.Sites.{Accepted};
+ghost use Rattle.records.specs.Sites.{Accepted, siteOf};
+ghost use Rattle.records.specs.Words.{WordsOf};
 ghost use Rattle.records.specs.Rules.{lastAxis};
 ghost use Rattle.fewest.specs.Lows.{lows};
 ghost use Rattle.fewest.specs.Pairs.{pairs};
 ghost use Rattle.fewest.specs.Frame.{Climbs};
 ghost use Rattle.fewest.specs.Table.{Full};
-ghost use Rattle.fewest.specs.Work.{Tests, Has, Nameless, Sits, Ready};
+ghost use Rattle.fewest.specs.Work.{Tests, Nameless, Sits, Ready};
 ghost use Rattle.asked.specs.Mark.{marks};
-ghost use Rattle.asked.specs.Seek.{Whole, Bits, RowSought, RestedNew, RestedBy, RestsSought, StepSought, RecordSought, SoughtOver, SettledMarks, MarkedOver};
+ghost use Rattle.asked.specs.Seek.{Whole, Bits, RowSought, Words, RestsSought, StepSought, RecordSought, SoughtOver, SettledMarks, MarkedOver};
 
 // A row of the byte table is filled with 0.
 fn clear_row(row: &mut [u8])
@@ -91,83 +89,9 @@ fn spread_row(asked: &mut [u8], r: usize, a: usize, was: bool) -> bool
     more
 }
 
-// Staying at t, which stands in triple k, for record r; where it stands in triple j before it, that was looked at already.
-fn rest_new<'a>(
-    site: &[u8],
-    k: usize,
-    j: usize,
-    up: &'a [u8; RECORDS],
-    role: &'a [u8; RECORDS],
-    numbers: &[u8],
-    asked: &mut [u8],
-    ends: &mut [u8],
-    label: Label,
-    r: usize,
-    t: usize,
-    was: bool,
-) -> bool
-    requires { ⌜ Has (now site) k × Full (now numbers) × Climbs records (now up) (now role) × Whole (lows (now asked)) × Bits (now ends) × (r < records) × (t < terms) × Tests label r ⌝ }
-    ensures { λ more. ⌜ RestedNew (now (site .entry)) k (now (up .entry)) (now (role .entry)) (pairs (now (numbers .entry))) label r t (marks (lows (now (asked .entry))) (now (ends .entry))) (marks (lows (now (asked .exit))) (now (ends .exit))) was more ⌝ }
-{
-    if stands_earlier(site, k, j, t) {
-        return was;
-    }
-    rest(up, role, numbers, asked, ends, label, r, t, was)
-}
-
-// Staying at the subject and at the object of triple k, for record r. The first triples with these terms are hints.
-fn rest_by<'a>(
-    site: &[u8],
-    k: usize,
-    up: &'a [u8; RECORDS],
-    role: &'a [u8; RECORDS],
-    numbers: &[u8],
-    asked: &mut [u8],
-    ends: &mut [u8],
-    label: Label,
-    r: usize,
-    was: bool,
-) -> bool
-    requires { ⌜ Has (now site) k × Full (now numbers) × Climbs records (now up) (now role) × Whole (lows (now asked)) × Bits (now ends) × (r < records) × Tests label r ⌝ }
-    ensures { λ more. ⌜ RestedBy (now (site .entry)) k (now (up .entry)) (now (role .entry)) (pairs (now (numbers .entry))) label r (marks (lows (now (asked .entry))) (now (ends .entry))) (marks (lows (now (asked .exit))) (now (ends .exit))) was more ⌝ }
-{
-    let x = triple_at(site, k);
-    let j = first_subject(asked, x.subject);
-    let i = first_object(asked, x.object);
-    let first = rest_new(
-        site,
-        k,
-        j,
-        up,
-        role,
-        numbers,
-        asked,
-        ends,
-        label,
-        r,
-        x.subject,
-        was,
-    );
-    rest_new(
-        site,
-        k,
-        i,
-        up,
-        role,
-        numbers,
-        asked,
-        ends,
-        label,
-        r,
-        x.object,
-        first,
-    )
-}
-
 // Staying at each vocabulary term, for record r.
 fn spread_rests<'a>(
-    site: &[u8],
-    triples: usize,
+    words: &[u8; TERMS],
     up: &'a [u8; RECORDS],
     role: &'a [u8; RECORDS],
     numbers: &[u8],
@@ -177,14 +101,16 @@ fn spread_rests<'a>(
     r: usize,
     was: bool,
 ) -> bool
-    requires { ⌜ Accepted (now site) triples × Full (now numbers) × Climbs records (now up) (now role) × Whole (lows (now asked)) × Bits (now ends) × (r < records) × Tests label r × Nameless label ⌝ }
-    ensures { λ more. ⌜ RestsSought (now (site .entry)) triples (now (up .entry)) (now (role .entry)) (pairs (now (numbers .entry))) label r (marks (lows (now (asked .entry))) (now (ends .entry))) (marks (lows (now (asked .exit))) (now (ends .exit))) was more ⌝ }
+    requires { ⌜ Full (now numbers) × Climbs records (now up) (now role) × Whole (lows (now asked)) × Bits (now ends) × (r < records) × Tests label r × Nameless label × Words (now words) ⌝ }
+    ensures { λ more. ⌜ RestsSought (now (words .entry)) (now (up .entry)) (now (role .entry)) (pairs (now (numbers .entry))) label r (marks (lows (now (asked .entry))) (now (ends .entry))) (marks (lows (now (asked .exit))) (now (ends .exit))) was more ⌝ }
 {
     let mut more = was;
-    let mut k = 0;
-    while k < triples {
-        more = rest_by(site, k, up, role, numbers, asked, ends, label, r, more);
-        k += 1;
+    let mut t = 0;
+    while t < TERMS {
+        if words[t] == 1 {
+            more = rest(up, role, numbers, asked, ends, label, r, t, more);
+        }
+        t += 1;
     }
     more
 }
@@ -205,10 +131,24 @@ fn spread_axis<'a>(
     requires { ⌜ Accepted (now site) triples × Full (now numbers) × Climbs records (now up) (now role) × Whole (lows (now asked)) × Bits (now ends) × (r < records) × Tests (step .label) r × (step .axis ≢ 0) × (step .axis ≤ lastAxis) ⌝ }
     ensures { λ more. ⌜ StepSought (now (site .entry)) triples step (now (up .entry)) (now (role .entry)) (pairs (now (numbers .entry))) r (marks (lows (now (asked .entry))) (now (ends .entry))) (marks (lows (now (asked .exit))) (now (ends .exit))) was more ⌝ }
 {
+    let parts = parts_of(step.axis);
+    let label = step.label;
     let mut more = was;
     let mut k = 0;
     while k < triples {
-        more = seek(site, k, step, up, role, numbers, asked, ends, r, more);
+        more = seek(
+            site,
+            k,
+            parts,
+            label,
+            up,
+            role,
+            numbers,
+            asked,
+            ends,
+            r,
+            more,
+        );
         k += 1;
     }
     more
@@ -217,6 +157,7 @@ fn spread_axis<'a>(
 // The step of record r, whatever its axis: self stays, at its named term or at each vocabulary term.
 fn spread_step<'a>(
     site: &[u8],
+    words: &[u8; TERMS],
     triples: usize,
     step: Step,
     up: &'a [u8; RECORDS],
@@ -227,7 +168,7 @@ fn spread_step<'a>(
     r: usize,
     was: bool,
 ) -> bool
-    requires { ⌜ Accepted (now site) triples × Full (now numbers) × Climbs records (now up) (now role) × Whole (lows (now asked)) × Bits (now ends) × (r < records) × Tests (step .label) r × (step .axis ≤ lastAxis) ⌝ }
+    requires { ⌜ Accepted (now site) triples × Full (now numbers) × Climbs records (now up) (now role) × Whole (lows (now asked)) × Bits (now ends) × (r < records) × Tests (step .label) r × (step .axis ≤ lastAxis) × WordsOf (siteOf (now site) triples) (now words) ⌝ }
     ensures { λ more. ⌜ StepSought (now (site .entry)) triples step (now (up .entry)) (now (role .entry)) (pairs (now (numbers .entry))) r (marks (lows (now (asked .entry))) (now (ends .entry))) (marks (lows (now (asked .exit))) (now (ends .exit))) was more ⌝ }
 {
     if step.axis != 0 {
@@ -237,12 +178,13 @@ fn spread_step<'a>(
     if let Label::Term(term) = label {
         return rest(up, role, numbers, asked, ends, label, r, term, was);
     }
-    spread_rests(site, triples, up, role, numbers, asked, ends, label, r, was)
+    spread_rests(words, up, role, numbers, asked, ends, label, r, was)
 }
 
 // What record r asks for, by its record; `first` is the record of a join's first operand.
 fn spread_record<'a>(
     site: &[u8],
+    words: &[u8; TERMS],
     triples: usize,
     rec: Record,
     first: usize,
@@ -254,12 +196,13 @@ fn spread_record<'a>(
     r: usize,
     was: bool,
 ) -> bool
-    requires { ⌜ Accepted (now site) triples × Full (now numbers) × Climbs records (now up) (now role) × Whole (lows (now asked)) × Bits (now ends) × (r < records) × Sits rec r × (first < records) ⌝ }
+    requires { ⌜ Accepted (now site) triples × Full (now numbers) × Climbs records (now up) (now role) × Whole (lows (now asked)) × Bits (now ends) × (r < records) × Sits rec r × (first < records) × WordsOf (siteOf (now site) triples) (now words) ⌝ }
     ensures { λ more. ⌜ RecordSought (now (site .entry)) triples rec first (now (up .entry)) (now (role .entry)) (pairs (now (numbers .entry))) r (marks (lows (now (asked .entry))) (now (ends .entry))) (marks (lows (now (asked .exit))) (now (ends .exit))) was more ⌝ }
 {
     match rec {
         Record::Step(step) => spread_step(
             site,
+            words,
             triples,
             step,
             up,
@@ -277,18 +220,7 @@ fn spread_record<'a>(
         }
         Record::Star => {
             let one = spread_row(asked, r, r - 1, was);
-            spread_rests(
-                site,
-                triples,
-                up,
-                role,
-                numbers,
-                asked,
-                ends,
-                Label::Any,
-                r,
-                one,
-            )
+            spread_rests(words, up, role, numbers, asked, ends, Label::Any, r, one)
         }
     }
 }
@@ -296,9 +228,10 @@ fn spread_record<'a>(
 // Every record once. False where no mark was added.
 fn sweep<'a>(
     site: &[u8],
+    words: &[u8; TERMS],
     triples: usize,
     rule: &[u8],
-    starts: &[usize; RECORDS],
+    starts: &[u8; RECORDS],
     count: usize,
     up: &'a [u8; RECORDS],
     role: &'a [u8; RECORDS],
@@ -307,16 +240,17 @@ fn sweep<'a>(
     asked: &mut [u8],
     ends: &mut [u8],
 ) -> bool
-    requires { ⌜ Ready (now site) triples (now rule) (now starts) count (now up) (now role) (now first) × Full (now numbers) × Whole (lows (now asked)) × Bits (now ends) ⌝ }
+    requires { ⌜ Ready (now site) triples (now rule) (now starts) count (now up) (now role) (now first) × Full (now numbers) × Whole (lows (now asked)) × Bits (now ends) × WordsOf (siteOf (now site) triples) (now words) ⌝ }
     ensures { λ more. ⌜ SoughtOver (now (site .entry)) triples (now (rule .entry)) (now (up .entry)) (now (role .entry)) (now (first .entry)) (pairs (now (numbers .entry))) (marks (lows (now (asked .entry))) (now (ends .entry))) (marks (lows (now (asked .exit))) (now (ends .exit))) more ⌝ }
 {
     let mut more = false;
     let mut r = 0;
     while r < count {
-        let rec = record_at(rule, starts[r]);
+        let rec = record_of(rule, starts, r);
         let operand = first[r] as usize;
         more = spread_record(
             site,
+            words,
             triples,
             rec,
             operand,
@@ -336,9 +270,10 @@ fn sweep<'a>(
 // Sweeps until one adds no mark.
 fn settle<'a>(
     site: &[u8],
+    words: &[u8; TERMS],
     triples: usize,
     rule: &[u8],
-    starts: &[usize; RECORDS],
+    starts: &[u8; RECORDS],
     count: usize,
     up: &'a [u8; RECORDS],
     role: &'a [u8; RECORDS],
@@ -347,11 +282,12 @@ fn settle<'a>(
     asked: &mut [u8],
     ends: &mut [u8],
 )
-    requires { ⌜ Ready (now site) triples (now rule) (now starts) count (now up) (now role) (now first) × Full (now numbers) × Whole (lows (now asked)) × Bits (now ends) ⌝ }
+    requires { ⌜ Ready (now site) triples (now rule) (now starts) count (now up) (now role) (now first) × Full (now numbers) × Whole (lows (now asked)) × Bits (now ends) × WordsOf (siteOf (now site) triples) (now words) ⌝ }
     ensures { λ _. ⌜ SettledMarks (now (site .entry)) triples (now (rule .entry)) (now (up .entry)) (now (role .entry)) (now (first .entry)) (pairs (now (numbers .entry))) (marks (lows (now (asked .entry))) (now (ends .entry))) (marks (lows (now (asked .exit))) (now (ends .exit))) ⌝ }
 {
     while sweep(
         site,
+        words,
         triples,
         rule,
         starts,
@@ -368,9 +304,10 @@ fn settle<'a>(
 // The questions that the whole rule asks at the start, and the ends that it leads to, where a table of ends is lent.
 pub fn ask<'a>(
     site: &[u8],
+    words: &[u8; TERMS],
     triples: usize,
     rule: &[u8],
-    starts: &[usize; RECORDS],
+    starts: &[u8; RECORDS],
     count: usize,
     up: &'a [u8; RECORDS],
     role: &'a [u8; RECORDS],
@@ -380,7 +317,7 @@ pub fn ask<'a>(
     asked: &mut [u8],
     ends: &mut [u8],
 )
-    requires { ⌜ Ready (now site) triples (now rule) (now starts) count (now up) (now role) (now first) × Full (now numbers) × Whole (now asked) × (0 < count) × (start < terms) ⌝ }
+    requires { ⌜ Ready (now site) triples (now rule) (now starts) count (now up) (now role) (now first) × Full (now numbers) × Whole (now asked) × (0 < count) × (start < terms) × WordsOf (siteOf (now site) triples) (now words) ⌝ }
     ensures { λ _. ⌜ MarkedOver (now (site .entry)) triples (now (rule .entry)) (now (up .entry)) (now (role .entry)) (now (first .entry)) (pairs (now (numbers .entry))) start (length (now (ends .entry))) (marks (now (asked .exit)) (now (ends .exit))) ⌝ }
 {
     free(asked);
@@ -402,6 +339,7 @@ pub fn ask<'a>(
     );
     settle(
         site,
+        words,
         triples,
         rule,
         starts,

@@ -23,7 +23,7 @@ use Rattle.asked.specs.Seek.{Bits}
 use Rattle.asked.proofs.Bridge.{marked-questions, marked-figure, marked-ends, marked-ends-count, last-record}
 use Rattle.asked.proofs.Fair.{Fair, begun-fair, marks-on-fair}
 use Rattle.path.specs.Walking.{Known}
-use Rattle.calls.specs.Inner.{Given, Evaluated}
+use Rattle.calls.specs.Inner.{Given, Numbered, Evaluated}
 use Rattle.calls.specs.Tables.{TermTable}
 use Rattle.calls.specs.Promise.{Form, as-words, as-bytes, Filled}
 use Rattle.calls.proofs.Fronts.{numbers-long}
@@ -49,58 +49,59 @@ module _ {s r : List ℕ} {n c : ℕ} {starts : List ℕ} {L : Links} (given : G
   few : length (recordsOf r) ≤ records
   few = let ready = given-ready given in omega (arith, ready .few, ready .counted)
 
-  module _ {g : Goal} {z k : ℕ} {asked numbers ends : List ℕ} (E : Evaluated s n r (L .up) (L .role) (L .first) g z k asked numbers ends) where
-    settled : Numbers (siteOf s n) g e (view (pairs numbers)) ×
-        ((q t : ℕ) → length (recordsOf r) ≤ q → q < records → t < terms → view (pairs numbers) q t ≡ none)
-    settled = settled-numbers within x (given-linked given x) few refl (E .settled .reached) (E .settled .settled)
+  module _ {g : Goal} {T : List ℕ} (S : Numbered s n r (L .up) (L .role) (L .first) g T) where
+    settled : Numbers (siteOf s n) g e (view T) ×
+        ((q t : ℕ) → length (recordsOf r) ≤ q → q < records → t < terms → view T q t ≡ none)
+    settled = settled-numbers within x (given-linked given x) few refl (S .reached) (S .settled)
 
     -- The numbers are the fewest steps of each record at each term; the walk along the path goes by them.
-    pub evaluated-known : Known (recordsOf r) e L (siteOf s n) g (pairs numbers)
-    evaluated-known = record { expression = x; linked = given-linked given x; within = within; numbers = settled .0 }
+    pub numbered-known : Known (recordsOf r) e L (siteOf s n) g T
+    numbered-known = record { expression = x; linked = given-linked given x; within = within; numbers = settled .0 }
 
-    module _ (start : z < terms) where
-      -- The numbers of the whole rule, in its last record's row, are the fewest steps of a path.
-      pub evaluated-steps : Fewest (Way (siteOf s n) g (entered e whole z)) (view (pairs numbers) (c - 1) z)
-      unfolding Numbers
-      evaluated-steps =
-          let row : c - 1 ≡ last e = omega (arith, given-last given x) in
-          rw row (settled .0 e whole refl z start)
+    -- The numbers of the whole rule, in its last record's row, are the fewest steps of a path.
+    pub numbered-steps : {z : ℕ} → z < terms → Fewest (Way (siteOf s n) g (entered e whole z)) (view T (c - 1) z)
+    unfolding Numbers
+    numbered-steps {z} start =
+        let row : c - 1 ≡ last e = omega (arith, given-last given x) in
+        rw row (settled .0 e whole refl z start)
 
-      -- The sum of the byte table is the work figure.
-      pub evaluated-figure : Figure (siteOf s n) e z (sum asked)
-      evaluated-figure = marked-figure within x (given-linked given x) few (settled .0) start (E .marked g)
+  module _ {g : Goal} {z k : ℕ} {asked numbers ends : List ℕ} (E : Evaluated s n r (L .up) (L .role) (L .first) g z k asked numbers ends)
+      (start : z < terms) where
+    -- The sum of the byte table is the work figure.
+    pub evaluated-figure : Figure (siteOf s n) e z (sum asked)
+    evaluated-figure = marked-figure within x (given-linked given x) few (settled (E .settled) .0) start (E .marked g)
 
-      fair : Fair (siteOf s n) z e (marks asked ends)
-      fair = marks-on-fair x few (given-linked given x) within (settled .0) (rw (last-record x) (E .marked g .reached)) (begun-fair x few k start)
+    fair : Fair (siteOf s n) z e (marks asked ends)
+    fair = marks-on-fair x few (given-linked given x) within (settled (E .settled) .0) (rw (last-record x) (E .marked g .reached)) (begun-fair x few k start)
 
-      -- The byte table and the table of ends hold 0 and 1, so that they can be counted.
-      pub evaluated-bits : Bits asked × Bits ends
-      unfolding Bits
-      evaluated-bits = (fair .bits, fair .end-bits)
+    -- The byte table and the table of ends hold 0 and 1, so that they can be counted.
+    pub evaluated-bits : Bits asked × Bits ends
+    unfolding Bits
+    evaluated-bits = (fair .bits, fair .end-bits)
 
-      -- The two tables are filled as for an answer.
-      pub evaluated-filled : length numbers ≡ records * terms + records * terms → Filled as-bytes (siteOf s n) e z g asked numbers
-      evaluated-filled long = record {
-        questions = record {
-          long = fair .long;
-          tells = λ q t h b. marked-questions within x (given-linked given x) few (settled .0) start (E .marked g) q t b;
-        };
+    -- The two tables are filled as for an answer.
+    pub evaluated-filled : length numbers ≡ records * terms + records * terms → Filled as-bytes (siteOf s n) e z g asked numbers
+    evaluated-filled long = record {
+      questions = record {
+        long = fair .long;
+        tells = λ q t h b. marked-questions within x (given-linked given x) few (settled (E .settled) .0) start (E .marked g) q t b;
+      };
+      long = long;
+      fewest = record {
+        long = numbers-long as-bytes (records * terms) numbers long;
+        numbers = settled (E .settled) .0;
+        unused = λ q t h b d. settled (E .settled) .1 q t (omega (arith, given-counted given, given-size given x)) b d;
+      };
+    }
+
+    module _ (long : length ends ≡ terms) where
+      -- Where a table of ends is lent, it holds 1 at each end and 0 elsewhere,
+      pub evaluated-ends : TermTable (Rel (siteOf s n) e z) ends
+      evaluated-ends = record {
         long = long;
-        fewest = record {
-          long = numbers-long as-bytes (records * terms) numbers long;
-          numbers = settled .0;
-          unused = λ q t h b d. settled .1 q t (omega (arith, given-counted given, given-size given x)) b d;
-        };
+        tells = marked-ends within x (given-linked given x) few (settled (E .settled) .0) start (E .marked g) long;
       }
 
-      module _ (long : length ends ≡ terms) where
-        -- Where a table of ends is lent, it holds 1 at each end and 0 elsewhere,
-        pub evaluated-ends : TermTable (Rel (siteOf s n) e z) ends
-        evaluated-ends = record {
-          long = long;
-          tells = marked-ends within x (given-linked given x) few (settled .0) start (E .marked g) long;
-        }
-
-        -- and its sum is the number of ends.
-        pub evaluated-ends-count : Count (Rel (siteOf s n) e z) (sum ends)
-        evaluated-ends-count = marked-ends-count within x (given-linked given x) few (settled .0) start (E .marked g) long
+      -- and its sum is the number of ends.
+      pub evaluated-ends-count : Count (Rel (siteOf s n) e z) (sum ends)
+      evaluated-ends-count = marked-ends-count within x (given-linked given x) few (settled (E .settled) .0) start (E .marked g) long

@@ -4,8 +4,8 @@ use Prim.Native.Nat.{ℕ, _+_, _*_, _-_, _≤_}
 use mathlib.Core.Path.{_≡_, refl}
 use mathlib.Core.List.{List, [], _∷_}
 use native.Mathlib.Omega.{arith}
-use lib.ListN.{length, replicate}
-use Rattle.meaning.specs.Limits.{terms, records, none}
+use lib.ListN.{length}
+use Rattle.meaning.specs.Limits.{terms, records}
 use Rattle.meaning.specs.Expression.{Expr, Expression}
 use Rattle.meaning.specs.Fewest.{Goal}
 use Rattle.records.specs.Sites.{siteOf}
@@ -13,10 +13,9 @@ use Rattle.records.specs.Rules.{recordsOf}
 use Rattle.fewest.specs.declared.links.Links.{Links}
 use Rattle.fewest.specs.Pairs.{pairs}
 use Rattle.fewest.specs.Table.{Full}
-use Rattle.fewest.specs.Work.{SettledOver}
 use Rattle.fewest.proofs.Bridge.{settled-numbers}
 use Rattle.calls.specs.Tables.{NumberTable}
-use Rattle.calls.specs.Inner.{Given}
+use Rattle.calls.specs.Inner.{Given, Numbered}
 use Rattle.calls.proofs.Admits.{given-counted, given-size, given-linked, given-ready}
 
 -- two bytes are one number
@@ -28,7 +27,7 @@ pairs-half n (h ∷ (l ∷ b)) long = omega (arith, pairs-half (n - 1) b (omega 
 
 -- What is settled from none is the number table.
 pub settled-table : {s r : List ℕ} {n c : ℕ} {starts : List ℕ} {L : Links} → Given s r n c starts L → {e : Expr} → Expression (recordsOf r) e →
-    {g : Goal} (b : List ℕ) → Full b → SettledOver s n r (L .up) (L .role) (L .first) g (replicate (records * terms) none) (pairs b) →
+    {g : Goal} (b : List ℕ) → Full b → Numbered s n r (L .up) (L .role) (L .first) g (pairs b) →
     NumberTable (siteOf s n) g e (pairs b)
 unfolding Full
 settled-table {r = r} {L = L} given x b full settled =

@@ -2,6 +2,6 @@
 pub mod Admission
 pub mod Tables
 pub mod Promise
-pub mod Inner
 pub mod Written
+pub mod Inner
 pub mod Values

@@ -29,7 +29,7 @@ pub enum Verdict {
 // The verdict, with the places and the links of the rule's records where it is ready.
 pub struct Admission {
     pub verdict: Verdict,
-    pub starts: [usize; RECORDS],
+    pub starts: [u8; RECORDS],
     pub links: Links,
 }
 

@@ -1,52 +1,88 @@
-// Deciding one pair on tables and a room of bytes: the lengths and the admission, both tables, then the answer and the path.
+// Deciding one pair on tables and a room of bytes: the lengths and the admission, the numbers, the path, the questions, then the
+// answer.
 use crate::Answer;
 use crate::Decision;
 use crate::admit::Verdict;
 use crate::admit::admit;
-use crate::evaluate::evaluate;
 use crate::lengths::BYTES;
 use crate::lengths::fit;
 use crate::write::write_bytes;
 use asked::count;
+use asked::spread::ask;
 use fewest::Goal;
+use fewest::sweep::fill;
 use fewest::table::number;
+use fewest::threads::thread;
 use records::NONE;
 use records::RECORDS;
 use records::Reason;
 use records::Refusal;
+use records::words::words_of;
 ghost use Prim.Native.Nat.{_<_};
-ghost use mathlib.Core.List.{[]};
+ghost use mathlib.Core.Path.{_≡_};
 ghost use Rattle.meaning.specs.Limits.{terms};
+ghost use Rattle.fewest.specs.Pairs.{pairs};
 ghost use Rattle.fewest.specs.Frame.{links};
+ghost use Rattle.fewest.specs.Sweep.{sum};
 ghost use Rattle.fewest.specs.Work.{goalOf};
-ghost use Rattle.calls.specs.Promise.{as-bytes, Fits, RoomFits, Decided};
-ghost use Rattle.calls.specs.Inner.{Given, Evaluated, Finished};
+ghost use Rattle.asked.specs.Seek.{Bits};
+ghost use Rattle.calls.specs.Promise.{as-bytes, room-steps, Fits, RoomFits, Decided};
+ghost use Rattle.calls.specs.Inner.{Given, Numbered, Displayed, verdict};
 
 // A room of bytes is one of so many steps, of six bytes each.
 pub const ROOM_STEPS: usize = 1024;
 
 const ROOM_BYTES: usize = 6 * ROOM_STEPS;
 
-// The answer that the filled tables tell, and the path into the room.
-fn finish<'a>(
+// The steps at the start, and the path into the room where it holds so many. The byte table is scratch until the questions are
+// asked: it holds the threads that the path goes by.
+fn show<'a>(
     site: &[u8],
     triples: usize,
     rule: &[u8],
-    starts: &[usize; RECORDS],
+    starts: &[u8; RECORDS],
     records: usize,
     up: &'a [u8; RECORDS],
     role: &'a [u8; RECORDS],
     first: &'a [u8; RECORDS],
     start: usize,
     end: usize,
-    asked: &[u8],
+    scratch: &mut [u8],
     numbers: &[u8],
     room: &mut [u8],
-) -> Decision
-    requires { ⌜ Given (now site) (now rule) triples records (now starts) (links (now up) (now role) (now first)) × Evaluated (now site) triples (now rule) (now up) (now role) (now first) (goalOf (Goal.End end)) start 0 (now asked) (now numbers) [] × (start < terms) × (end < terms) × Fits as-bytes (now asked) (now numbers) × RoomFits as-bytes (now room) ⌝ }
-    ensures { λ d. ⌜ Finished as-bytes (now (site .entry)) (now (rule .entry)) start end (now (asked .entry)) (now (numbers .entry)) (now (room .entry)) (now (room .exit)) d ⌝ }
+) -> usize
+    requires { ⌜ Given (now site) (now rule) triples records (now starts) (links (now up) (now role) (now first)) × Numbered (now site) triples (now rule) (now up) (now role) (now first) (goalOf (Goal.End end)) (pairs (now numbers)) × (start < terms) × Fits as-bytes (now scratch) (now numbers) × RoomFits as-bytes (now room) ⌝ }
+    ensures { λ k. ⌜ Displayed as-bytes (now (site .entry)) triples (now (rule .entry)) records (links (now (up .entry)) (now (role .entry)) (now (first .entry))) (goalOf (Goal.End end)) (pairs (now (numbers .entry))) start room-steps (now (room .entry)) (now (room .exit)) k ⌝ }
 {
     let steps = number(numbers, records - 1, start);
+    if ROOM_STEPS < steps {
+        return steps;
+    }
+    thread(site, triples, scratch);
+    write_bytes(
+        site,
+        scratch,
+        triples,
+        rule,
+        starts,
+        records,
+        up,
+        role,
+        first,
+        Goal::End(end),
+        numbers,
+        start,
+        steps,
+        room,
+    );
+    steps
+}
+
+// The decision by the steps, by the most that the room holds and by the figure, which is counted.
+pub fn finish(asked: &[u8], steps: usize, most: usize) -> Decision
+    requires { ⌜ Bits (now asked) ⌝ }
+    ensures { λ d. ⌜ d ≡ verdict steps most (sum (now (asked .entry))) ⌝ }
+{
     let figure = count::count(asked);
     if steps == NONE {
         return Decision::Answer(Answer {
@@ -55,28 +91,12 @@ fn finish<'a>(
             steps: 0,
         });
     }
-    if ROOM_STEPS < steps {
+    if most < steps {
         return Decision::Refused(Refusal {
             reason: Reason::Room,
             place: steps,
         });
     }
-    let goal = Goal::End(end);
-    write_bytes(
-        site,
-        triples,
-        rule,
-        starts,
-        records,
-        up,
-        role,
-        first,
-        goal,
-        numbers,
-        start,
-        steps,
-        room,
-    );
     Decision::Answer(Answer {
         yes: true,
         figure,
@@ -84,12 +104,12 @@ fn finish<'a>(
     })
 }
 
-// What was admitted is evaluated, with no table of ends, and answered.
+// What was admitted is answered: the numbers, the path by them, then the questions, with no table of ends.
 fn answer<'a>(
     site: &[u8],
     triples: usize,
     rule: &[u8],
-    starts: &[usize; RECORDS],
+    starts: &[u8; RECORDS],
     records: usize,
     up: &'a [u8; RECORDS],
     role: &'a [u8; RECORDS],
@@ -103,7 +123,8 @@ fn answer<'a>(
     requires { ⌜ Given (now site) (now rule) triples records (now starts) (links (now up) (now role) (now first)) × (start < terms) × (end < terms) × Fits as-bytes (now asked) (now numbers) × RoomFits as-bytes (now room) ⌝ }
     ensures { λ d. ⌜ Decided as-bytes (now (site .entry)) (now (rule .entry)) start end (now (asked .entry)) (now (numbers .entry)) (now (room .entry)) (now (asked .exit)) (now (numbers .exit)) (now (room .exit)) d ⌝ }
 {
-    evaluate(
+    let words = words_of(site, triples);
+    fill(
         site,
         triples,
         rule,
@@ -113,12 +134,11 @@ fn answer<'a>(
         role,
         first,
         Goal::End(end),
-        start,
+        &words,
         asked,
         numbers,
-        &mut room[..0],
     );
-    finish(
+    let steps = show(
         site,
         triples,
         rule,
@@ -132,7 +152,23 @@ fn answer<'a>(
         asked,
         numbers,
         room,
-    )
+    );
+    ask(
+        site,
+        &words,
+        triples,
+        rule,
+        starts,
+        records,
+        up,
+        role,
+        first,
+        numbers,
+        start,
+        asked,
+        &mut room[..0],
+    );
+    finish(asked, steps, ROOM_STEPS)
 }
 
 // Whether the rule relates start to end, with the figure, both tables filled and the path shown in the room.

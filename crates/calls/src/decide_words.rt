@@ -1,70 +1,67 @@
 // The same decision where the numbers and the room are lent as numbers: the work is done on byte pairs and handed back.
-use crate::Answer;
 use crate::Decision;
 use crate::admit::Verdict;
 use crate::admit::admit;
-use crate::evaluate::evaluate;
+use crate::decide::finish;
 use crate::lengths::BYTES;
 use crate::lengths::ENTRIES;
 use crate::lengths::fit;
 use crate::write::copy_back;
 use crate::write::write_words;
-use asked::count;
+use asked::spread::ask;
 use fewest::Goal;
+use fewest::sweep::fill;
 use fewest::table::number;
+use fewest::threads::thread;
 use records::NONE;
 use records::RECORDS;
 use records::Reason;
 use records::Refusal;
+use records::words::words_of;
 ghost use Prim.Native.Nat.{_<_};
 ghost use mathlib.Core.Path.{_≡_};
-ghost use mathlib.Core.List.{[]};
 ghost use lib.ListN.{length};
 ghost use Rattle.meaning.specs.Limits.{terms};
 ghost use Rattle.fewest.specs.Pairs.{pairs};
 ghost use Rattle.fewest.specs.Frame.{links};
 ghost use Rattle.fewest.specs.Table.{Full};
 ghost use Rattle.fewest.specs.Work.{goalOf};
+ghost use Rattle.asked.specs.Seek.{Whole};
 ghost use Rattle.calls.specs.Promise.{as-words, Fits, Decided};
-ghost use Rattle.calls.specs.Inner.{Given, Evaluated, Finished};
+ghost use Rattle.calls.specs.Inner.{Given, Numbered, Displayed};
+ghost use Rattle.calls.specs.Written.{Roomy};
 
-// The answer that the filled tables tell, and the path into a room of numbers, of any length.
-fn finish_words<'a>(
+// The steps at the start, and the path into a room of numbers where it holds so many: as for a room of bytes.
+fn show_words<'a>(
     site: &[u8],
     triples: usize,
     rule: &[u8],
-    starts: &[usize; RECORDS],
+    starts: &[u8; RECORDS],
     records: usize,
     up: &'a [u8; RECORDS],
     role: &'a [u8; RECORDS],
     first: &'a [u8; RECORDS],
     start: usize,
     end: usize,
-    asked: &[u8],
+    most: usize,
+    scratch: &mut [u8],
     bytes: &[u8],
     room: &mut [u16],
-) -> Decision
-    requires { ⌜ Given (now site) (now rule) triples records (now starts) (links (now up) (now role) (now first)) × Evaluated (now site) triples (now rule) (now up) (now role) (now first) (goalOf (Goal.End end)) start 0 (now asked) (now bytes) [] × (start < terms) × (end < terms) × Full (now bytes) ⌝ }
-    ensures { λ d. ⌜ Finished as-words (now (site .entry)) (now (rule .entry)) start end (now (asked .entry)) (pairs (now (bytes .entry))) (now (room .entry)) (now (room .exit)) d ⌝ }
+) -> usize
+    requires { ⌜ Given (now site) (now rule) triples records (now starts) (links (now up) (now role) (now first)) × Numbered (now site) triples (now rule) (now up) (now role) (now first) (goalOf (Goal.End end)) (pairs (now bytes)) × (start < terms) × Whole (now scratch) × Full (now bytes) × Roomy as-words most (now room) ⌝ }
+    ensures { λ k. ⌜ Displayed as-words (now (site .entry)) triples (now (rule .entry)) records (links (now (up .entry)) (now (role .entry)) (now (first .entry))) (goalOf (Goal.End end)) (pairs (now (bytes .entry))) start most (now (room .entry)) (now (room .exit)) k ⌝ }
 {
     let steps = number(bytes, records - 1, start);
-    let figure = count::count(asked);
     if steps == NONE {
-        return Decision::Answer(Answer {
-            yes: false,
-            figure,
-            steps: 0,
-        });
+        return steps;
     }
-    if room.len() < 3 * steps {
-        return Decision::Refused(Refusal {
-            reason: Reason::Room,
-            place: steps,
-        });
+    if most < steps {
+        return steps;
     }
-    let goal = Goal::End(end);
+    thread(site, triples, scratch);
     write_words(
         site,
+        scratch,
         triples,
         rule,
         starts,
@@ -72,25 +69,21 @@ fn finish_words<'a>(
         up,
         role,
         first,
-        goal,
+        Goal::End(end),
         bytes,
         start,
         steps,
         room,
     );
-    Decision::Answer(Answer {
-        yes: true,
-        figure,
-        steps,
-    })
+    steps
 }
 
-// What was admitted is evaluated on byte pairs, with no table of ends; the numbers are handed back, and it is answered.
+// What was admitted is answered on byte pairs, with no table of ends, and the numbers are handed back.
 fn answer_words<'a>(
     site: &[u8],
     triples: usize,
     rule: &[u8],
-    starts: &[usize; RECORDS],
+    starts: &[u8; RECORDS],
     records: usize,
     up: &'a [u8; RECORDS],
     role: &'a [u8; RECORDS],
@@ -106,7 +99,9 @@ fn answer_words<'a>(
     requires { ⌜ Given (now site) (now rule) triples records (now starts) (links (now up) (now role) (now first)) × (start < terms) × (end < terms) × Fits as-words (now asked) (now numbers) × Full (now bytes) × (length (now ends) ≡ 0) ⌝ }
     ensures { λ d. ⌜ Decided as-words (now (site .entry)) (now (rule .entry)) start end (now (asked .entry)) (now (numbers .entry)) (now (room .entry)) (now (asked .exit)) (now (numbers .exit)) (now (room .exit)) d ⌝ }
 {
-    evaluate(
+    let most = room.len() / 3;
+    let words = words_of(site, triples);
+    fill(
         site,
         triples,
         rule,
@@ -116,13 +111,11 @@ fn answer_words<'a>(
         role,
         first,
         Goal::End(end),
-        start,
+        &words,
         asked,
         bytes,
-        ends,
     );
-    copy_back(bytes, numbers);
-    finish_words(
+    let steps = show_words(
         site,
         triples,
         rule,
@@ -133,10 +126,28 @@ fn answer_words<'a>(
         first,
         start,
         end,
+        most,
         asked,
         bytes,
         room,
-    )
+    );
+    ask(
+        site,
+        &words,
+        triples,
+        rule,
+        starts,
+        records,
+        up,
+        role,
+        first,
+        bytes,
+        start,
+        asked,
+        ends,
+    );
+    copy_back(bytes, numbers);
+    finish(asked, steps, most)
 }
 
 // Whether the rule relates start to end, with the figure, both tables filled and the path shown in the room, of any length.

@@ -28,7 +28,7 @@ fn list<'a>(
     site: &[u8],
     triples: usize,
     rule: &[u8],
-    starts: &[usize; RECORDS],
+    starts: &[u8; RECORDS],
     records: usize,
     up: &'a [u8; RECORDS],
     role: &'a [u8; RECORDS],

@@ -15,6 +15,7 @@ use records::RECORDS;
 use records::Reason;
 use records::Refusal;
 use records::TERMS;
+use records::words::words_of;
 ghost use mathlib.Core.Path.{_≡_};
 ghost use lib.ListN.{length};
 ghost use Rattle.meaning.specs.Limits.{terms};
@@ -29,7 +30,7 @@ fn list<'a>(
     site: &[u8],
     triples: usize,
     rule: &[u8],
-    starts: &[usize; RECORDS],
+    starts: &[u8; RECORDS],
     records: usize,
     up: &'a [u8; RECORDS],
     role: &'a [u8; RECORDS],
@@ -42,6 +43,7 @@ fn list<'a>(
     requires { ⌜ Given (now site) (now rule) triples records (now starts) (links (now up) (now role) (now first)) × Full (now numbers) × Whole (now asked) × (length (now third) ≡ terms) ⌝ }
     ensures { λ k. ⌜ Listed (now (site .entry)) triples (now (rule .entry)) records (now (up .entry)) (now (role .entry)) (now (first .entry)) end (now (asked .exit)) (now (numbers .exit)) (now (third .exit)) k ⌝ }
 {
+    let words = words_of(site, triples);
     fill(
         site,
         triples,
@@ -52,6 +54,7 @@ fn list<'a>(
         role,
         first,
         Goal::End(end),
+        &words,
         asked,
         numbers,
     );

@@ -18,6 +18,7 @@ ghost use Rattle.fewest.specs.Pairs.{pairs};
 ghost use Rattle.fewest.specs.Frame.{links};
 ghost use Rattle.fewest.specs.Table.{Full};
 ghost use Rattle.fewest.specs.Work.{goalOf, Ready};
+ghost use Rattle.fewest.specs.Threads.{Threads};
 ghost use Rattle.calls.specs.Promise.{as-words, as-bytes};
 ghost use Rattle.calls.specs.Written.{Small, StepWritten, Walkable, Roomy, PathWritten, rowOf, front};
 
@@ -59,12 +60,13 @@ fn step_bytes(room: &mut [u8], i: usize, x: Taken)
     put(room, at + 2, x.to);
 }
 
-// The path shown from a start, of so many steps, into the front of a room of numbers.
+// The path shown from a start, of so many steps, into the front of a room of numbers. The site's threads are in scratch.
 pub fn write_words<'a>(
     site: &[u8],
+    scratch: &[u8],
     triples: usize,
     rule: &[u8],
-    starts: &[usize; RECORDS],
+    starts: &[u8; RECORDS],
     count: usize,
     up: &'a [u8; RECORDS],
     role: &'a [u8; RECORDS],
@@ -75,7 +77,7 @@ pub fn write_words<'a>(
     steps: usize,
     room: &mut [u16],
 )
-    requires { ⌜ Ready (now site) triples (now rule) (now starts) count (now up) (now role) (now first) × Full (now numbers) × (start < terms) × Roomy as-words steps (now room) × Walkable (recordsOf (now rule)) (links (now up) (now role) (now first)) (siteOf (now site) triples) (goalOf goal) (pairs (now numbers)) start steps ⌝ }
+    requires { ⌜ Ready (now site) triples (now rule) (now starts) count (now up) (now role) (now first) × Threads (now site) triples (now scratch) × Full (now numbers) × (start < terms) × Roomy as-words steps (now room) × Walkable (recordsOf (now rule)) (links (now up) (now role) (now first)) (siteOf (now site) triples) (goalOf goal) (pairs (now numbers)) start steps ⌝ }
     ensures { λ _. ⌜ PathWritten as-words (recordsOf (now (rule .entry))) (links (now (up .entry)) (now (role .entry)) (now (first .entry))) (siteOf (now (site .entry)) triples) (goalOf goal) (pairs (now (numbers .entry))) start steps (now (room .entry)) (now (room .exit)) ⌝ }
 {
     let mut walk = Walk {
@@ -87,6 +89,7 @@ pub fn write_words<'a>(
         let stand = walk.stand;
         let Pick::Step(x) = next_step(
             site,
+            scratch,
             triples,
             rule,
             starts,
@@ -111,9 +114,10 @@ pub fn write_words<'a>(
 // The same into a room of byte pairs.
 pub fn write_bytes<'a>(
     site: &[u8],
+    scratch: &[u8],
     triples: usize,
     rule: &[u8],
-    starts: &[usize; RECORDS],
+    starts: &[u8; RECORDS],
     count: usize,
     up: &'a [u8; RECORDS],
     role: &'a [u8; RECORDS],
@@ -124,7 +128,7 @@ pub fn write_bytes<'a>(
     steps: usize,
     room: &mut [u8],
 )
-    requires { ⌜ Ready (now site) triples (now rule) (now starts) count (now up) (now role) (now first) × Full (now numbers) × (start < terms) × Roomy as-bytes steps (now room) × Walkable (recordsOf (now rule)) (links (now up) (now role) (now first)) (siteOf (now site) triples) (goalOf goal) (pairs (now numbers)) start steps ⌝ }
+    requires { ⌜ Ready (now site) triples (now rule) (now starts) count (now up) (now role) (now first) × Threads (now site) triples (now scratch) × Full (now numbers) × (start < terms) × Roomy as-bytes steps (now room) × Walkable (recordsOf (now rule)) (links (now up) (now role) (now first)) (siteOf (now site) triples) (goalOf goal) (pairs (now numbers)) start steps ⌝ }
     ensures { λ _. ⌜ PathWritten as-bytes (recordsOf (now (rule .entry))) (links (now (up .entry)) (now (role .entry)) (now (first .entry))) (siteOf (now (site .entry)) triples) (goalOf goal) (pairs (now (numbers .entry))) start steps (now (room .entry)) (now (room .exit)) ⌝ }
 {
     let mut walk = Walk {
@@ -136,6 +140,7 @@ pub fn write_bytes<'a>(
         let stand = walk.stand;
         let Pick::Step(x) = next_step(
             site,
+            scratch,
             triples,
             rule,
             starts,

@@ -1,13 +1,14 @@
 -- The laws of numbers in byte pairs: what is read at a place, what a store leaves, and what filling makes.
 -- Above them no proof looks at a byte.
-use Prim.Native.Nat.{ℕ, suc, zero, _+_, _*_, _<_}
+use Prim.Native.Nat.{ℕ, suc, zero, _+_, _*_, _/_, _<_}
 use mathlib.Core.Path.{_≡_, refl, ap}
 use mathlib.Core.List.{List, [], _∷_, _++_, append-nil}
 use native.Mathlib.Omega.{arith}
 use lib.ListN.{length, getD, set, drop, replicate}
 use lib.Seq.{drop-length}
 use Rattle.records.specs.Bytes.{base}
-use Rattle.fewest.specs.Pairs.{pairs}
+use Rattle.fewest.specs.Pairs.{coupled, pairs}
+use Rattle.fewest.specs.Cells.{half, lowest, cells}
 
 twice : (i : ℕ) → suc i + suc i ≡ suc (suc (i + i))
 twice i = omega arith
@@ -15,27 +16,45 @@ twice i = omega arith
 odd : (i : ℕ) → suc i + suc i + 1 ≡ suc (suc (i + i + 1))
 odd i = omega arith
 
+-- whatever number two bytes make
+module _ (made : ℕ → ℕ → ℕ) where
+  at : (b : List ℕ) (i : ℕ) → i + i + 1 < length b → getD (coupled made b) i 0 ≡ made (getD b (i + i) 0) (getD b (i + i + 1) 0)
+  at [] i h = absurd (omega arith)
+  at (x ∷ []) i h = absurd (omega arith)
+  at (x ∷ (y ∷ b)) zero h = refl
+  at (x ∷ (y ∷ b)) (suc i) h = rw (odd i, twice i) (at b i (omega arith))
+
+  store : (b : List ℕ) (i x y : ℕ) → i + i + 1 < length b → coupled made (set (set b (i + i) x) (i + i + 1) y) ≡ set (coupled made b) i (made x y)
+  store [] i x y h = absurd (omega arith)
+  store (u ∷ []) i x y h = absurd (omega arith)
+  store (u ∷ (v ∷ b)) zero x y h = refl
+  store (u ∷ (v ∷ b)) (suc i) x y h = rw (odd i, twice i) (ap (λ (l : List ℕ). made u v ∷ l) (store b i x y (omega arith)))
+
+  -- half as many numbers as bytes
+  long : (b : List ℕ) → length (coupled made b) ≡ length b / 2
+  long [] = refl
+  long (x ∷ []) = refl
+  long (x ∷ (y ∷ b)) = let k = long b in omega arith
+
 pub pairs-at : (b : List ℕ) (i : ℕ) → i + i + 1 < length b → getD (pairs b) i 0 ≡ getD b (i + i) 0 * base + getD b (i + i + 1) 0
 unfolding pairs
-pairs-at [] i h = absurd (omega arith)
-pairs-at (x ∷ []) i h = absurd (omega arith)
-pairs-at (x ∷ (y ∷ b)) zero h = refl
-pairs-at (x ∷ (y ∷ b)) (suc i) h = rw (odd i, twice i) (pairs-at b i (omega arith))
+pairs-at = at _
 
 pub pairs-set : (b : List ℕ) (i x y : ℕ) → i + i + 1 < length b → pairs (set (set b (i + i) x) (i + i + 1) y) ≡ set (pairs b) i (x * base + y)
 unfolding pairs
-pairs-set [] i x y h = absurd (omega arith)
-pairs-set (u ∷ []) i x y h = absurd (omega arith)
-pairs-set (u ∷ (v ∷ b)) zero x y h = refl
-pairs-set (u ∷ (v ∷ b)) (suc i) x y h = rw (odd i, twice i) (ap (λ (l : List ℕ). (u * base + v) ∷ l) (pairs-set b i x y (omega arith)))
+pairs-set = store _
 
--- half as many numbers as bytes
-pub pairs-long : (b : List ℕ) (i : ℕ) → i + i + 1 < length b → i < length (pairs b)
-unfolding pairs
-pairs-long [] i h = absurd (omega arith)
-pairs-long (x ∷ []) i h = absurd (omega arith)
-pairs-long (x ∷ (y ∷ b)) zero h = omega arith
-pairs-long (x ∷ (y ∷ b)) (suc i) h = let k = pairs-long b i (omega arith) in omega arith
+pub cells-at : (b : List ℕ) (i : ℕ) → i + i + 1 < length b → getD (cells b) i 0 ≡ getD b (i + i) 0 / lowest * half + getD b (i + i + 1) 0 / lowest
+unfolding cells
+cells-at = at _
+
+pub cells-set : (b : List ℕ) (i x y : ℕ) → i + i + 1 < length b → cells (set (set b (i + i) x) (i + i + 1) y) ≡ set (cells b) i (x / lowest * half + y / lowest)
+unfolding cells
+cells-set = store _
+
+pub cells-long : (b : List ℕ) → length (cells b) ≡ length b / 2
+unfolding cells
+cells-long = long _
 
 -- bytes that are all the same make numbers that are
 pairs-same : (n v : ℕ) → pairs (replicate (n + n) v) ≡ replicate n (v * base + v)

@@ -7,6 +7,7 @@ pub mod Bound
 pub mod Lowering
 pub mod Sweeps
 pub mod Roles
+pub mod Nexts
 pub mod Works
 pub mod Bridge
 pub mod Walk
@@ -22,3 +23,4 @@ pub mod Linking
 pub mod Readiness
 pub mod Telling
 pub mod Hints
+pub mod Threading

@@ -10,7 +10,7 @@ use Rattle.meaning.specs.Limits.{terms, none}
 use Rattle.meaning.specs.Expression.{Rec}
 use Rattle.meaning.proofs.None.{home-meets}
 use Rattle.fewest.specs.Frame.{Frame}
-use Rattle.fewest.specs.Offer.{place, view, Continues, home, held, on, out, again, ending, Work, Offer, by-step, by-test, by-row, by-rest, Lowers, stay, lower, Settles, rest, work}
+use Rattle.fewest.specs.Offer.{place, view, Continues, home, held, on, again, ending, Work, Offer, by-step, by-test, by-row, by-rest, Lowers, stay, lower, Settles, rest, work}
 use Rattle.fewest.specs.Bounded.{Bounded}
 use Rattle.fewest.proofs.Places.{view-set-other}
 use Rattle.fewest.proofs.Bound.{Fresh, one-fresh, bounded-store}
@@ -22,7 +22,6 @@ module _ {F : Frame} {T : List ℕ} where
   continues-fresh (home {u = u} q) h = rw (home-meets (F .goal) u h .1) (one-fresh T)
   continues-fresh (held q) h = one-fresh T
   continues-fresh (on q) h = (_, h, omega arith)
-  continues-fresh (out q c) h = continues-fresh c h
   continues-fresh (again q) h = (_, h, omega arith)
   continues-fresh (ending q c) h = continues-fresh c h
 

@@ -15,7 +15,7 @@ use Rattle.records.specs.Rules.{recordsOf}
 use Rattle.records.specs.First.{First, taken, Ends}
 use Rattle.records.proofs.Starts.{records-few}
 use Rattle.records.proofs.First.{first-below, first-before, first-unique, operand, first-operand, first-node}
-use Rattle.fewest.specs.Frame.{as-test, as-first, as-last, as-round, Links, links}
+use Rattle.fewest.specs.Frame.{as-test, as-first, as-round, roleOf, upOf, Links, links}
 use Rattle.fewest.specs.LinksOf.{stand, begin, join, standing, Precedes, Joined, Stood}
 use Rattle.fewest.proofs.Roles.{operand-before}
 
@@ -37,9 +37,9 @@ join-operands {rs} {r} {m} e two p =
     record { some = some; before = omega (arith, first-before p); precedes = rw same at p }
 
 -- The two stores of a join and its own, in the order of the code.
-pub joined : {rs : List Rec} {r m s : ℕ} {up up₁ up₂ role role₁ role₂ first : List ℕ} → Join rs r m →
-    (up₁ ≡ set up (r - 1) r) × (role₁ ≡ set role (r - 1) as-last) → (up₂ ≡ set up₁ (m - 1) r) × (role₂ ≡ set role₁ (m - 1) s) →
-    Joined rs r s (links up role first) (links up₂ role₂ (set first r (m - 1)))
+pub joined : {rs : List Rec} {r m p s : ℕ} {up up₁ up₂ role role₁ role₂ first : List ℕ} → Join rs r m →
+    (up₁ ≡ set up (r - 1) (getD up r 0)) × (role₁ ≡ set role (r - 1) (getD role r 0)) →
+    (up₂ ≡ set up₁ (m - 1) p) × (role₂ ≡ set role₁ (m - 1) s) → Joined rs r p s (links up role first) (links up₂ role₂ (set first r (m - 1)))
 joined {m = m} j one two = record { operand = m - 1; precedes = j .precedes; stores = rw (two .0, two .1, one .0, one .1) }
 
 -- A record that takes an operand is not the first.
@@ -61,42 +61,47 @@ stood-one k s here one same e = record {
 }
 
 -- and of a join, whose first operand stands so.
-pub stood-join : {rs : List Rec} {r : ℕ} {L L′ : Links} (k : Rec) (s : ℕ) → getD rs r starring ≡ k →
-    ((f : ℕ) → join r f s L ≡ standing k r f L) → Joined rs r s L L′ → Stood rs r L L′
-stood-join k s here same j =
+pub stood-join : {rs : List Rec} {r p s : ℕ} {L L′ : Links} (k : Rec) → getD rs r starring ≡ k →
+    ((f : ℕ) → join r f p s L ≡ standing k r f L) → Joined rs r p s L L′ → Stood rs r L L′
+stood-join k here same j =
     record { operand = j .operand; precedes = λ two. j .precedes; stores = rw here (j .stores ∙ same (j .operand)) }
 
--- what is stored for the operands of a subexpression
-abbrev pub standingOf : Expr → Links → Links
-standingOf (step r a l) L = L
-standingOf (tested r a x) L = stand (last x) r as-test L
-standingOf (sequence r a b) L = begin r (last a) (stand (last a) r as-first (stand (last b) r as-last L))
-standingOf (choice r a b) L = begin r (last a) (stand (last a) r as-last (stand (last b) r as-last L))
-standingOf (star r a) L = stand (last a) r as-round L
+-- the entries of a subexpression say where it stands
+abbrev pub Right : Links → Expr → Context → Type 0
+Right L e K = (getD (L .up) (last e) 0 ≡ upOf K) × (getD (L .role) (last e) 0 ≡ roleOf K)
+
+-- what is stored for the operands of a subexpression, which stands so
+abbrev pub standingOf : Expr → Context → Links → Links
+standingOf (step r a l) N L = L
+standingOf (tested r a x) N L = stand (last x) r as-test L
+standingOf (sequence r a b) N L = begin r (last a) (stand (last a) r as-first (stand (last b) (upOf N) (roleOf N) L))
+standingOf (choice r a b) N L = begin r (last a) (stand (last a) (upOf N) (roleOf N) (stand (last b) (upOf N) (roleOf N) L))
+standingOf (star r a) N L = stand (last a) r as-round L
 
 module _ {rs : List Rec} {rule : Expr} (x : Expression rs rule) where
   -- the first operand of a join, by its second, which ends just before the join
   precedes-last : (q : ℕ) (a b : Expr) (B : Context) {f : ℕ} → plug b B ≡ rule → q - 1 ≡ last b → last a + 1 ≡ first b → Precedes rs q f → f ≡ last a
   precedes-last q a b B {f} p back j h = omega (arith, first-unique (rw back at h) (first-node x b B p))
 
-  standing-node : (f : ℕ) (L : Links) (n : Expr) (N : Context) → plug n N ≡ rule → (operands (own n) ≡ 2 → Precedes rs (last n) f) →
-      standing (own n) (last n) f L ≡ standingOf n L
-  standing-node f L (step q a l) N p h = refl
-  standing-node f L (tested q a y) N p h = rw (operand-before (x .numbered) (tested q a y) N p)
-  standing-node f L (sequence q a b) N p h =
+  standing-node : (f : ℕ) (L : Links) (n : Expr) (N : Context) → plug n N ≡ rule → Right L n N →
+      (operands (own n) ≡ 2 → Precedes rs (last n) f) → standing (own n) (last n) f L ≡ standingOf n N L
+  standing-node f L (step q a l) N p right h = refl
+  standing-node f L (tested q a y) N p right h = rw (operand-before (x .numbered) (tested q a y) N p)
+  standing-node f L (sequence q a b) N p right h =
       let (k, m) = numbered-node (sequence q a b) N (rw p (x .numbered)) in
       let back = operand-before (x .numbered) (sequence q a b) N p in
-      rw (precedes-last q a b (second-of q a N) p back (join-first k a b (m .0) (m .1)) (h refl), back)
-  standing-node f L (choice q a b) N p h =
+      rw (precedes-last q a b (second-of q a N) p back (join-first k a b (m .0) (m .1)) (h refl), back, right .0, right .1)
+  standing-node f L (choice q a b) N p right h =
       let (k, m) = numbered-node (choice q a b) N (rw p (x .numbered)) in
       let back = operand-before (x .numbered) (choice q a b) N p in
-      rw (precedes-last q a b (other-of q a N) p back (join-first k a b (m .0) (m .1)) (h refl), back)
-  standing-node f L (star q a) N p h = rw (operand-before (x .numbered) (star q a) N p)
+      rw (precedes-last q a b (other-of q a N) p back (join-first k a b (m .0) (m .1)) (h refl), back, right .0, right .1)
+  standing-node f L (star q a) N p right h = rw (operand-before (x .numbered) (star q a) N p)
 
   -- What a record's part stores is stored for the operands of the subexpression that it names.
-  pub stood-node : {r : ℕ} {L L′ : Links} → Stood rs r L L′ → (n : Expr) (N : Context) → plug n N ≡ rule → last n ≡ r → L′ ≡ standingOf n L
-  stood-node {r} {L} {L′} s n N p h =
+  pub stood-node : {r : ℕ} {L L′ : Links} → Stood rs r L L′ → (n : Expr) (N : Context) → plug n N ≡ rule → last n ≡ r → Right L n N →
+      L′ ≡ standingOf n N L
+  stood-node {r} {L} {L′} s n N p h right =
       let own-one = own-record x n N p in
       s .stores ∙
       rw (← h, own-one)
-      (standing-node (s .operand) L n N p (λ e. rw (← h) at (s .precedes (rw (← h) (ap operands own-one ∙ e)))))
+      (standing-node (s .operand) L n N p right (λ e. rw (← h) at (s .precedes (rw (← h) (ap operands own-one ∙ e)))))

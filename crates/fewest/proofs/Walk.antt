@@ -5,19 +5,17 @@ use mathlib.Core.Path.{_≡_, refl, subst}
 use mathlib.Core.Logic.{_⊎_, inl, inr, ⊎-elim, _≢_}
 use mathlib.Core.List.{List}
 use native.Mathlib.Omega.{arith}
-use native.Mathlib.Decide.{ℕ-discrete}
 use lib.ListN.{getD}
 use lib.Dec.{eqb}
-use borrow.Author.Tests.{eq-eqb, ne-eqb}
 use Rattle.meaning.specs.Limits.{records, none}
 use Rattle.meaning.specs.Site.{Site}
 use Rattle.meaning.specs.Fewest.{Goal, end, anywhere}
 use Rattle.meaning.specs.Left.{home-left}
 use Rattle.meaning.proofs.None.{min-either}
 use Rattle.records.proofs.Tests.{by-test}
-use Rattle.fewest.specs.Frame.{as-whole, as-test, as-first, as-last, as-round, Climbs, frame}
-use Rattle.fewest.specs.Offer.{view, Continues, out, again, ending}
-use Rattle.fewest.specs.Work.{Least, again-left}
+use Rattle.fewest.specs.Frame.{as-whole, as-test, as-first, as-round, Climbs, frame}
+use Rattle.fewest.specs.Offer.{view, Continues, again, ending}
+use Rattle.fewest.specs.Work.{Least}
 use Rattle.fewest.proofs.Roles.{Says, continues-says, says-continues}
 
 -- the walk from record r has reached record `at`; `best` is the least of the numbers passed, or none
@@ -39,12 +37,12 @@ module _ {up role : List ℕ} {g : Goal} {T : List ℕ} where
   module _ {r u at best : ℕ} (walk : Walked up role g T r u at best) where
     -- what the record's role says of a number that may follow it
     says : {s : Site} {w : ℕ} (k : ℕ) → getD role at 0 ≡ k → Continues (frame s up role g) T at u w →
-        Says (frame s up role g) T at (getD up at 0) u w k
-    says {s} {w} k q c = subst (λ k. Says (frame s up role g) T at (getD up at 0) u w k) q (continues-says c)
+        Says (frame s up role g) T (getD up at 0) u w k
+    says {s} {w} k q c = subst (λ k. Says (frame s up role g) T (getD up at 0) u w k) q (continues-says c)
 
     -- The walk ends at a record with this role, after which v alone may follow: the least is the least so far or v.
-    ends : (k : ℕ) {v : ℕ} → getD role at 0 ≡ k → v ≤ none → ((s : Site) → Says (frame s up role g) T at (getD up at 0) u v k) →
-        ((s : Site) (w : ℕ) → Says (frame s up role g) T at (getD up at 0) u w k → w ≡ v) → Least up role g T r u (min best v)
+    ends : (k : ℕ) {v : ℕ} → getD role at 0 ≡ k → v ≤ none → ((s : Site) → Says (frame s up role g) T (getD up at 0) u v k) →
+        ((s : Site) (w : ℕ) → Says (frame s up role g) T (getD up at 0) u w k → w ≡ v) → Least up role g T r u (min best v)
     ends k {v} q h here only = record {
       among = λ s. ⊎-elim
           (λ e. ⊎-elim (λ z. let m : min best v ≡ v = omega arith in rw m (last s)) (λ f. rw e (f s)) (walk .among))
@@ -69,36 +67,17 @@ module _ {up role : List ℕ} {g : Goal} {T : List ℕ} where
         Least up role g T r u (min best (view T (getD up at 0 - 1) u))
     walk-first q h = ends as-first q h (λ s. refl) (λ s w e. e)
 
-    -- an operand that finishes with its parent
-    up-last : getD up at 0 < records → getD role at 0 ≡ as-last → Walked up role g T r u (getD up at 0) best
-    up-last h q = record {
-      inside = h;
-      top = walk .top;
-      among = walk .among;
-      onward = λ s w c. walk .onward s w (out q c);
-      passed = λ s w c. ⊎-elim inl (λ d. inr (says as-last q d)) (walk .passed s w c);
-    }
-
-    -- a star's operand, which may run again
-    up-round : getD up at 0 < records → getD role at 0 ≡ as-round → Walked up role g T r u (getD up at 0) (min best (view T at u))
-    up-round h q = record {
-      inside = h;
-      top = let t = walk .top in omega arith;
-      among = ⊎-elim (λ e. rw e (walk .among)) (λ e. inr (λ s. rw e (walk .onward s (view T at u) (again q))))
-          (min-either best (view T at u));
-      onward = λ s w c. walk .onward s w (ending q c);
-      passed = λ s w c. ⊎-elim (λ l. inl (omega arith))
-          (λ d. ⊎-elim (λ e. inl (omega arith)) inr (says as-round q d)) (walk .passed s w c);
-    }
-
-    -- One record up, where the role is none of these.
+    -- One star up, where the role is none of these: its operand may run again.
     pub walk-up : Climbs records up role → getD role at 0 ≢ as-whole → getD role at 0 ≢ as-test → getD role at 0 ≢ as-first →
-        Walked up role g T r u (getD up at 0) (again-left T (getD role at 0) best at u)
-    unfolding again-left
+        Walked up role g T r u (getD up at 0) (min best (view T (getD up at 0 - 1) u))
     walk-up climbs a b c =
-        let (_, h) = climbs .higher at (walk .inside) a in
         let k = climbs .known at (walk .inside) in
-        elim (ℕ-discrete (getD role at 0) as-round) [
-          | yes q ↦ rw (eq-eqb _ _ q) (up-round h q)
-          | no q ↦ rw (ne-eqb _ _ q) (up-last h (omega arith))
-        ]
+        let q : getD role at 0 ≡ as-round = omega arith in
+        let round = view T (getD up at 0 - 1) u in record {
+          inside = climbs .higher at (walk .inside) a .1;
+          top = let t = walk .top in omega arith;
+          among = ⊎-elim (λ e. rw e (walk .among)) (λ e. inr (λ s. rw e (walk .onward s round (again q)))) (min-either best round);
+          onward = λ s w c. walk .onward s w (ending q c);
+          passed = λ s w c. ⊎-elim (λ l. inl (omega arith))
+              (λ d. ⊎-elim (λ e. inl (omega arith)) inr (says as-round q d)) (walk .passed s w c);
+        }

@@ -11,8 +11,7 @@ use Rattle.meaning.specs.Expression.{Expr, sequence, choice, last, Context, who
 use Rattle.meaning.specs.Fewest.{Goal}
 pub use Rattle.fewest.specs.declared.links.Links.{Links}
 
--- how an expression stands: as the whole rule, as a test, as the first of a sequence, as what finishes with its parent
--- (the second of a sequence, an operand of a choice), as the round of a star
+-- how an expression stands: as the whole rule, as a test, as the first of a sequence, as the round of a star
 abbrev pub as-whole : ℕ
 as-whole = 0
 
@@ -22,32 +21,30 @@ as-test = 1
 abbrev pub as-first : ℕ
 as-first = 2
 
-abbrev pub as-last : ℕ
-as-last = 3
-
 abbrev pub as-round : ℕ
-as-round = 4
+as-round = 3
 
+-- what finishes with its parent (the second of a sequence, an operand of a choice) stands as its parent does
 abbrev pub roleOf : Context → ℕ
 roleOf whole = as-whole
 roleOf (test r a K) = as-test
 roleOf (first-of r b K) = as-first
-roleOf (second-of r a K) = as-last
-roleOf (one-of r b K) = as-last
-roleOf (other-of r a K) = as-last
+roleOf (second-of r a K) = roleOf K
+roleOf (one-of r b K) = roleOf K
+roleOf (other-of r a K) = roleOf K
 roleOf (round-of r K) = as-round
 
--- the record of its parent, 0 for the whole rule
+-- the record below which it stands so, 0 for the whole rule
 abbrev pub upOf : Context → ℕ
 upOf whole = 0
 upOf (test r a K) = r
 upOf (first-of r b K) = r
-upOf (second-of r a K) = r
-upOf (one-of r b K) = r
-upOf (other-of r a K) = r
+upOf (second-of r a K) = upOf K
+upOf (one-of r b K) = upOf K
+upOf (other-of r a K) = upOf K
 upOf (round-of r K) = r
 
--- the three arrays: the parent's record and the role of each record, and the first operand's record of each join
+-- the three arrays: the role of each record and the record below which it has it, and the first operand's record of each join
 abbrev pub links : List ℕ → List ℕ → List ℕ → Links
 links up role first = record { up = up; role = role; first = first }
 

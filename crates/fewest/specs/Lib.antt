@@ -1,6 +1,7 @@
 -- What the number table's functions promise.
 pub mod Pairs
 pub mod Lows
+pub mod Cells
 pub mod Frame
 pub mod LinksOf
 pub mod Next
@@ -10,3 +11,4 @@ pub mod Table
 pub mod Told
 pub mod Sweep
 pub mod Work
+pub mod Threads

@@ -8,26 +8,30 @@ use Rattle.meaning.specs.Limits.{records}
 use Rattle.meaning.specs.Expression.{Rec, plain, testing, joining, choosing, starring, Expr, Expression}
 use Rattle.records.specs.Rules.{recordsOf}
 use Rattle.records.specs.First.{First, taken}
-use Rattle.fewest.specs.Frame.{as-test, as-first, as-last, as-round, Links, links, Linked, Climbs}
+use Rattle.fewest.specs.Frame.{as-test, as-first, as-round, Links, links, Linked, Climbs}
 
--- the expression of record k stands so below the parent p
+-- the expression of record k stands so below record p
 abbrev pub stand : (k p role : ℕ) → Links → Links
 stand k p role L = links (set (L .up) k p) (set (L .role) k role) (L .first)
+
+-- the expression of record k stands as that of record r does
+abbrev pub take : (k r : ℕ) → Links → Links
+take k r L = stand k (getD (L .up) r 0) (getD (L .role) r 0) L
 
 -- the first operand of the join r is record f
 abbrev pub begin : (r f : ℕ) → Links → Links
 begin r f L = links (L .up) (L .role) (set (L .first) r f)
 
--- the operands of a join: the last ends just before it, and the first is record f and stands so
-abbrev pub join : (r f role : ℕ) → Links → Links
-join r f role L = begin r f (stand f r role (stand (r - 1) r as-last L))
+-- the operands of a join: the second ends just before it and stands as it does, and the first is record f and stands so
+abbrev pub join : (r f p role : ℕ) → Links → Links
+join r f p role L = begin r f (stand f p role (take (r - 1) r L))
 
 -- the operands of record number r, which is this record; f is the first of a join
 abbrev pub standing : Rec → (r f : ℕ) → Links → Links
 standing (plain a l) r f L = L
 standing (testing a) r f L = stand (r - 1) r as-test L
-standing joining r f L = join r f as-first L
-standing choosing r f L = join r f as-last L
+standing joining r f L = join r f r as-first L
+standing choosing r f L = join r f (getD (L .up) r 0) (getD (L .role) r 0) L
 standing starring r f L = stand (r - 1) r as-round L
 
 -- the first operand of a join ends just before its second begins
@@ -35,10 +39,10 @@ abbrev pub Precedes : List Rec → (r f : ℕ) → Type 0
 Precedes rs r f = First rs (r - 1) (f + 1)
 
 -- what a join's part leaves
-pub record Joined (rs : List Rec) (r role : ℕ) (L L′ : Links) : Type 0 where
+pub record Joined (rs : List Rec) (r p role : ℕ) (L L′ : Links) : Type 0 where
   pub operand : ℕ
   pub precedes : Precedes rs r operand
-  pub stores : L′ ≡ join r operand role L
+  pub stores : L′ ≡ join r operand p role L
 
 -- what a record's part leaves
 pub record Stood (rs : List Rec) (r : ℕ) (L L′ : Links) : Type 0 where

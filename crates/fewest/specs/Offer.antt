@@ -9,7 +9,7 @@ use Rattle.meaning.specs.Site.{Voc}
 use Rattle.meaning.specs.Move.{Axis, Label, Move, any}
 use Rattle.meaning.specs.Expression.{Rec, plain, testing, joining, choosing, starring}
 use Rattle.meaning.specs.Left.{home-left}
-use Rattle.fewest.specs.Frame.{as-whole, as-test, as-first, as-last, as-round, Frame}
+use Rattle.fewest.specs.Frame.{as-whole, as-test, as-first, as-round, Frame}
 
 -- the table's entry of record r at term t
 abbrev pub place : ℕ → ℕ → ℕ
@@ -18,13 +18,13 @@ place r t = r * terms + t
 unfoldable pub view : List ℕ → ℕ → ℕ → ℕ
 view T r t = getD T (place r t) 0
 
--- once record r's expression is finished at u, v more steps may finish its body
+-- once record r's expression is finished at u, v more steps may finish its body; the second of a sequence and the operand of
+-- a star are the record before it
 pub data Continues (F : Frame) (T : List ℕ) : ℕ → ℕ → ℕ → Type 0 where
   home : {r u : ℕ} → getD (F .role) r 0 ≡ as-whole → Continues F T r u (home-left (F .goal) u)
   held : {r u : ℕ} → getD (F .role) r 0 ≡ as-test → Continues F T r u 0
   on : {r u : ℕ} → getD (F .role) r 0 ≡ as-first → Continues F T r u (view T (getD (F .up) r 0 - 1) u)
-  out : {r u v : ℕ} → getD (F .role) r 0 ≡ as-last → Continues F T (getD (F .up) r 0) u v → Continues F T r u v
-  again : {r u : ℕ} → getD (F .role) r 0 ≡ as-round → Continues F T r u (view T r u)
+  again : {r u : ℕ} → getD (F .role) r 0 ≡ as-round → Continues F T r u (view T (getD (F .up) r 0 - 1) u)
   ending : {r u v : ℕ} → getD (F .role) r 0 ≡ as-round → Continues F T (getD (F .up) r 0) u v → Continues F T r u v
 
 -- a record's row is lowered by work of four kinds: along a step; along a step whose test is the row before; from another

@@ -1,8 +1,8 @@
 -- What the functions over the table promise, one record each, over the table's list of numbers.
 -- The work of a step, of a star's empty rounds and of a row, looked at offer by offer.
-use Prim.Native.Nat.{ℕ, _+_, _-_, _<_, _≤_, min}
+use Prim.Native.Nat.{ℕ, _+_, _-_, _<_, _≤_}
 use mathlib.Core.Path.{_≡_}
-use mathlib.Core.Logic.{_≢_, _⊎_}
+use mathlib.Core.Logic.{_≢_}
 use mathlib.Core.Bool.{Bool, true, false, cond}
 use mathlib.Core.List.{List, List·Memᴰ}
 use lib.ListN.{length, getD}
@@ -13,19 +13,20 @@ use Rattle.meaning.specs.Move.{Axis, self, Move, any, only}
 use Rattle.meaning.specs.Expression.{starring}
 use Rattle.meaning.specs.Fewest.{end, anywhere}
 use Rattle.meaning.specs.Fewest as meaning
-use Rattle.records.specs.declared.Triple.{Triple}
 use Rattle.records.specs.declared.Label.{Label}
 use Rattle.records.specs.declared.Label.the-variants.{Any, Term, Test}
 use Rattle.records.specs.declared.Step.{Step}
 use Rattle.records.specs.declared.Record.{Record}
 use Rattle.records.specs.declared.Record.the-variants as kind
-use Rattle.records.specs.Sites.{Accepted, siteOf}
+use Rattle.records.specs.Sites.{subjectPart, predicatePart, objectPart, termAt, Accepted, siteOf}
+use Rattle.records.specs.Words.{WordsOf}
 use Rattle.records.specs.Rules.{lastAxis, axisNumbered, recOf, recordAt, recAt, recordsOf}
 use Rattle.fewest.specs.declared.Goal.{Goal}
 use Rattle.fewest.specs.declared.Goal.the-variants.{End, Anywhere}
 use Rattle.fewest.specs.declared.look.Moved.{Moved}
+use Rattle.fewest.specs.declared.look.Parts.{Parts}
 use Rattle.fewest.specs.Pairs.{pairs}
-use Rattle.fewest.specs.Frame.{as-round, Climbs, Frame, frame}
+use Rattle.fewest.specs.Frame.{Climbs, Frame, frame}
 use Rattle.fewest.specs.Offer.{view, Continues, Work, stepping, proving, copying, resting, worksOf, Offer, Lowers, Quiet, Settles, Settled}
 use Rattle.fewest.specs.Sweep.{sum, Swept}
 
@@ -40,10 +41,6 @@ pub record Least (up role : List ℕ) (g : meaning.Goal) (T : List ℕ) (r u v :
   pub least : (s : meant.Site) (w : ℕ) → Continues (frame s up role g) T r u w → v ≤ w
   pub top : v ≤ none
 
--- the least so far, and a round's own number with it
-unfoldable pub again-left : List ℕ → ℕ → ℕ → ℕ → ℕ → ℕ
-again-left T stands best r u = cond (eqb stands as-round) (min best (view T r u)) best
-
 -- the work of a step with this axis and label
 abbrev pub workOf : Axis → Label → Work
 workOf a Any = stepping a any
@@ -56,15 +53,23 @@ allowing T Any r m = true
 allowing T (Term n) r m = eqb m n
 allowing T Test r m = ltb (view T (r - 1) m) none
 
--- a triple as the axis with this number takes it
-unfoldable pub movedBy : ℕ → Triple → Moved
-movedBy a x =
-    cond (eqb a 1) (record { from = x .subject; middle = x .predicate; to = x .object })
-    (cond (eqb a 2) (record { from = x .object; middle = x .predicate; to = x .subject })
-    (cond (eqb a 3) (record { from = x .subject; middle = x .object; to = x .predicate })
-    (cond (eqb a 4) (record { from = x .predicate; middle = x .object; to = x .subject })
-    (cond (eqb a 5) (record { from = x .predicate; middle = x .subject; to = x .object })
-    (record { from = x .object; middle = x .subject; to = x .predicate })))))
+-- where the terms stand in a triple's record, as the axis with this number takes them
+unfoldable pub partsOf : ℕ → Parts
+partsOf a =
+    cond (eqb a 1) (record { from = subjectPart; middle = predicatePart; to = objectPart })
+    (cond (eqb a 2) (record { from = objectPart; middle = predicatePart; to = subjectPart })
+    (cond (eqb a 3) (record { from = subjectPart; middle = objectPart; to = predicatePart })
+    (cond (eqb a 4) (record { from = predicatePart; middle = objectPart; to = subjectPart })
+    (cond (eqb a 5) (record { from = predicatePart; middle = subjectPart; to = objectPart })
+    (record { from = objectPart; middle = subjectPart; to = predicatePart })))))
+
+-- an axis takes them so
+abbrev pub Axial : Parts → Type 0
+Axial p = (a : ℕ) × (p ≡ partsOf a)
+
+-- triple number k from a term to a term, past a middle, where they stand so
+unfoldable pub movedAt : List ℕ → ℕ → Parts → Moved
+movedAt b k p = record { from = termAt b k (p .from); middle = termAt b k (p .middle); to = termAt b k (p .to) }
 
 -- the work of staying at a term: a star's empty round costs no step, a self step one
 abbrev pub staying : ℕ → Label → Work
@@ -96,12 +101,11 @@ Has b k = (n : ℕ) × Accepted b n × (k < n)
 abbrev pub QuietBy : Frame → Axis → Label → ℕ → ℕ → List ℕ → Type 0
 QuietBy F a l r k T = (t m u v : ℕ) → Move (F .site) a any k t m u → allowing T l r m ≡ true → Continues F T r u v → view T r t ≤ v + 1
 
--- a look at triple k for a step of record r whose axis takes triples
-abbrev pub Looked : List ℕ → ℕ → Step → List ℕ → List ℕ → meaning.Goal → ℕ → List ℕ → List ℕ → Bool → Bool → Type 0
-Looked b k x up role g r T T′ was now =
-    (n : ℕ) → Accepted b n → k < n → x .axis ≢ 0 → x .axis ≤ lastAxis →
-    Looks (frame (siteOf b n) up role g) (workOf (axisNumbered (x .axis)) (x .label)) r
-    (QuietBy (frame (siteOf b n) up role g) (axisNumbered (x .axis)) (x .label) r k) T T′ was now
+-- a look at triple k for a step of record r with this label, by any axis that takes triples and takes them so
+abbrev pub Looked : List ℕ → ℕ → Parts → Label → List ℕ → List ℕ → meaning.Goal → ℕ → List ℕ → List ℕ → Bool → Bool → Type 0
+Looked b k p l up role g r T T′ was now =
+    (n a : ℕ) → Accepted b n → k < n → p ≡ partsOf a → a ≢ 0 → a ≤ lastAxis →
+    Looks (frame (siteOf b n) up role g) (workOf (axisNumbered a) l) r (QuietBy (frame (siteOf b n) up role g) (axisNumbered a) l r k) T T′ was now
 
 -- where one may stay: at a vocabulary term; at a named term, where the step is named
 pub data MayRest (s : meant.Site) : Label → ℕ → ℕ → Type 0 where
@@ -114,39 +118,6 @@ Rested up role g l cost r t T T′ was now =
     (s : meant.Site) → MayRest s l cost t → (cost ≡ 0 → l ≡ Any) →
     Looks (frame s up role g) (staying cost l) r (QuietAt (frame s up role g) (staying cost l) r t) T T′ was now
 
--- the term stands in triple number k, as its subject or its object
-abbrev pub Stands : meant.Site → ℕ → ℕ → Type 0
-Stands s k t = (t ≡ meant.triple s k .subject) ⊎ (t ≡ meant.triple s k .object)
-
--- of a term that stands in triple number k: this holds, or the term stands in a triple before it
-pub data New (s : meant.Site) (Q : Type 0) (k t : ℕ) : Type 0 where
-  earlier : {j : ℕ} → j < k → Stands s j t → New s Q k t
-  looked : Q → New s Q k t
-
--- the answer tells of a term that it stands in a triple before number k
-abbrev pub StandsEarlier : List ℕ → ℕ → ℕ → Bool → Type 0
-StandsEarlier b k t told = (n : ℕ) → k < n → told ≡ true → (j : ℕ) × (j < k) × Stands (siteOf b n) j t
-
--- staying at t, which stands in triple k, was looked at, or t stands in a triple before it
-abbrev pub RestedNew : List ℕ → ℕ → List ℕ → List ℕ → meaning.Goal → Label → ℕ → ℕ → ℕ → List ℕ → List ℕ → Bool → Bool → Type 0
-RestedNew b k up role g l cost r t T T′ was now =
-    (n : ℕ) → Accepted b n → k < n → MayRest (siteOf b n) l cost t → (cost ≡ 0 → l ≡ Any) →
-    Looks (frame (siteOf b n) up role g) (staying cost l) r
-    (λ X. New (siteOf b n) (QuietAt (frame (siteOf b n) up role g) (staying cost l) r t X) k t) T T′ was now
-
--- what is seen of staying at the ends of triple number k
-abbrev pub AtEnds : Frame → Work → ℕ → ℕ → List ℕ → Type 0
-AtEnds F w r k X =
-    New (F .site) (QuietAt F w r (meant.triple (F .site) k .subject) X) k (meant.triple (F .site) k .subject) ×
-    New (F .site) (QuietAt F w r (meant.triple (F .site) k .object) X) k (meant.triple (F .site) k .object)
-
--- staying at the subject and the object of triple k was looked at, where they are new
-abbrev pub RestedBy : List ℕ → ℕ → List ℕ → List ℕ → meaning.Goal → Label → ℕ → ℕ → List ℕ → List ℕ → Bool → Bool → Type 0
-RestedBy b k up role g l cost r T T′ was now =
-    (n : ℕ) → Accepted b n → k < n → (cost ≡ 0 → l ≡ Any) →
-    Looks (frame (siteOf b n) up role g) (staying cost l) r
-    (AtEnds (frame (siteOf b n) up role g) (staying cost l) r k) T T′ was now
-
 -- a label without a name
 abbrev pub Nameless : Label → Type 0
 Nameless Any = Unit
@@ -157,9 +128,10 @@ Nameless Test = Unit
 abbrev pub WorkSwept : Frame → Work → ℕ → List ℕ → List ℕ → Bool → Bool → Type 0
 WorkSwept F w r T T′ was now = Swept sum (Lowers F w r) (Quiet F w r) T T′ was now
 
-abbrev pub RestsSwept : List ℕ → ℕ → List ℕ → List ℕ → meaning.Goal → Label → ℕ → ℕ → List ℕ → List ℕ → Bool → Bool → Type 0
-RestsSwept b n up role g l cost r T T′ was now =
-    Nameless l → (cost ≡ 0 → l ≡ Any) → WorkSwept (frame (siteOf b n) up role g) (staying cost l) r T T′ was now
+-- staying at each vocabulary term was looked at, where the words are the site's
+abbrev pub RestsSwept : List ℕ → List ℕ → List ℕ → meaning.Goal → Label → ℕ → ℕ → List ℕ → List ℕ → Bool → Bool → Type 0
+RestsSwept words up role g l cost r T T′ was now =
+    (s : meant.Site) → WordsOf s words → Nameless l → (cost ≡ 0 → l ≡ Any) → WorkSwept (frame s up role g) (staying cost l) r T T′ was now
 
 abbrev pub AxisSwept : List ℕ → ℕ → Step → List ℕ → List ℕ → meaning.Goal → ℕ → List ℕ → List ℕ → Bool → Bool → Type 0
 AxisSwept b n x up role g r T T′ was now =

@@ -1,13 +1,14 @@
 // Scratch in the lent byte table: cells of two bytes. Each byte keeps its two low bits, where the marks of the questions stand.
-// What a cell holds is a hint and promised of nothing: whoever reads one checks it. Past the end a cell reads 0 and takes nothing.
+// The values are the list `cells` of the bytes. Past the end a cell reads 0 and takes nothing.
 use crate::pairs::get;
 use crate::pairs::put;
 use crate::pairs::wide;
 use records::bytes::BASE;
 ghost use mathlib.Core.Path.{_≡_};
 ghost use Prim.Native.Nat.{_<_};
-ghost use lib.ListN.{length};
+ghost use lib.ListN.{length, getD, set};
 ghost use Rattle.fewest.specs.Lows.{lows};
+ghost use Rattle.fewest.specs.Cells.{values, cells};
 
 // A cell's value is below this; a cell that names nothing has the greatest.
 pub const CELL: usize = HALF * HALF;
@@ -21,7 +22,9 @@ const HALF: usize = 64;
 const LOW: usize = 4;
 
 // The value of a cell.
-pub fn cell(scratch: &[u8], i: usize) -> usize {
+pub fn cell(scratch: &[u8], i: usize) -> usize
+    ensures { λ r. ⌜ (r ≡ getD (cells (now (scratch .entry))) i 0) × (r < values) ⌝ }
+{
     if scratch.len() / 2 <= i {
         return 0;
     }
@@ -45,6 +48,18 @@ pub fn put_cell(scratch: &mut [u8], i: usize, v: usize)
     }
     put_half(scratch, i + i, v / HALF);
     put_half(scratch, i + i + 1, v);
+}
+
+// The cell takes a value and loses its marks: for the time before any stands.
+pub fn put_new(scratch: &mut [u8], i: usize, v: usize)
+    requires { ⌜ v < values ⌝ }
+    ensures { λ _. ⌜ cells (now (scratch .exit)) ≡ set (cells (now (scratch .entry))) i v ⌝ }
+{
+    if scratch.len() / 2 <= i {
+        return;
+    }
+    scratch[i + i] = (v / HALF % HALF * LOW) as u8;
+    scratch[i + i + 1] = (v % HALF * LOW) as u8;
 }
 
 // A cell's whole bytes as a set of 16 bits.

@@ -1,7 +1,6 @@
 // What is left once a record's expression is finished at a term: the least of the numbers that may follow.
 use crate::Goal;
 use crate::links::AS_FIRST;
-use crate::links::AS_ROUND;
 use crate::links::AS_TEST;
 use crate::links::AS_WHOLE;
 use crate::table::number;
@@ -14,7 +13,7 @@ ghost use Rattle.meaning.specs.Left.{home-left};
 ghost use Rattle.fewest.specs.Pairs.{pairs};
 ghost use Rattle.fewest.specs.Frame.{Climbs};
 ghost use Rattle.fewest.specs.Table.{Full};
-ghost use Rattle.fewest.specs.Work.{goalOf, Least, again-left};
+ghost use Rattle.fewest.specs.Work.{goalOf, Least};
 
 fn least(a: usize, b: usize) -> usize
     ensures { λ r. ⌜ r ≡ min a b ⌝ }
@@ -32,18 +31,8 @@ fn home(goal: Goal, u: usize) -> usize
     }
 }
 
-// A star's operand may run again: the least so far, or its own number where that is less.
-fn again(numbers: &[u8], stands: u8, best: usize, r: usize, u: usize) -> usize
-    requires { ⌜ Full (now numbers) × (r < records) × (u < terms) ⌝ }
-    ensures { λ v. ⌜ v ≡ again-left (pairs (now (numbers .entry))) stands best r u ⌝ }
-{
-    if stands == AS_ROUND {
-        return least(best, number(numbers, r, u));
-    }
-    best
-}
-
-// The least number that may follow once record r's expression is finished at u.
+// The least number that may follow once record r's expression is finished at u. The second of a sequence and the operand of a
+// star are the record before it: so the number that is read is that of the second, or of the round once more.
 pub fn left<'a>(
     numbers: &[u8],
     up: &'a [u8; RECORDS],
@@ -66,10 +55,10 @@ pub fn left<'a>(
             return 0;
         }
         let above = up[at] as usize;
+        best = least(best, number(numbers, above - 1, u));
         if stands == AS_FIRST {
-            return least(best, number(numbers, above - 1, u));
+            return best;
         }
-        best = again(numbers, stands, best, at, u);
         at = above;
     }
 }

@@ -4,11 +4,12 @@ use crate::Goal;
 use crate::cells::put_set;
 use crate::cells::set_at;
 use crate::left::left;
-use crate::links::AS_TEST;
 use crate::links::AS_WHOLE;
 use crate::look::Moved;
+use crate::look::Parts;
 use crate::look::allows;
-use crate::look::by_axis;
+use crate::look::move_at;
+use crate::look::parts_of;
 use crate::look::rest;
 use crate::pairs::wide;
 use crate::sets::HINTS;
@@ -19,11 +20,13 @@ use crate::sets::last_in;
 use crate::sets::lasts;
 use crate::sets::less;
 use crate::sets::orders;
+use crate::sets::parent_of;
 use crate::sets::place_of;
 use crate::sets::record_in;
 use crate::sets::root_of;
 use crate::sets::size_of;
 use crate::sets::sizes;
+use crate::sweep::sweep_axis;
 use crate::table::lower;
 use crate::table::number;
 use crate::threads::FREE;
@@ -38,8 +41,9 @@ use records::RECORDS;
 use records::Record;
 use records::Step;
 use records::TERMS;
-use records::rule::record_at;
+use records::rule::record_of;
 use records::site::triple_at;
+ghost use mathlib.Core.Path.{_≡_};
 ghost use mathlib.Core.Logic.{_≢_};
 ghost use Prim.Native.Nat.{_<_};
 ghost use Rattle.meaning.specs.Limits.{terms, records};
@@ -50,7 +54,7 @@ ghost use Rattle.fewest.specs.Pairs.{pairs};
 ghost use Rattle.fewest.specs.Frame.{Climbs, frame};
 ghost use Rattle.fewest.specs.Offer.{Lowers};
 ghost use Rattle.fewest.specs.Table.{Full};
-ghost use Rattle.fewest.specs.Work.{goalOf, Tests, workOf, Sits, Ready, Stayed, RecordWorked, Reached, Stepping, Hinted};
+ghost use Rattle.fewest.specs.Work.{goalOf, Tests, workOf, partsOf, Sits, Ready, Stayed, RecordWorked, Reached, Stepping, Hinted};
 
 // In scratch behind the threads: for two levels by turns, which steps are open at a term; which ever were; the terms of both.
 const OPEN: usize = FREE;
@@ -161,7 +165,7 @@ fn fill_in<'a>(
     site: &[u8],
     triples: usize,
     rule: &[u8],
-    starts: &[usize; RECORDS],
+    starts: &[u8; RECORDS],
     count: usize,
     up: &'a [u8; RECORDS],
     role: &'a [u8; RECORDS],
@@ -181,7 +185,7 @@ fn fill_in<'a>(
     if number(numbers, r, t) < NONE {
         return false;
     }
-    let rec = record_at(rule, starts[r]);
+    let rec = record_of(rule, starts, r);
     let operand = first[r] as usize;
     column(
         site,
@@ -203,7 +207,7 @@ fn fill_within<'a>(
     site: &[u8],
     triples: usize,
     rule: &[u8],
-    starts: &[usize; RECORDS],
+    starts: &[u8; RECORDS],
     count: usize,
     up: &'a [u8; RECORDS],
     role: &'a [u8; RECORDS],
@@ -261,7 +265,7 @@ fn pass_empty<'a>(
     site: &[u8],
     triples: usize,
     rule: &[u8],
-    starts: &[usize; RECORDS],
+    starts: &[u8; RECORDS],
     count: usize,
     up: &'a [u8; RECORDS],
     role: &'a [u8; RECORDS],
@@ -307,7 +311,7 @@ fn climb_one<'a>(
     site: &[u8],
     triples: usize,
     rule: &[u8],
-    starts: &[usize; RECORDS],
+    starts: &[u8; RECORDS],
     count: usize,
     up: &'a [u8; RECORDS],
     role: &'a [u8; RECORDS],
@@ -326,7 +330,7 @@ fn climb_one<'a>(
     if count <= above {
         return false;
     }
-    let rec = record_at(rule, starts[above]);
+    let rec = record_of(rule, starts, above);
     let operand = first[above] as usize;
     pass_empty(
         site,
@@ -364,7 +368,7 @@ fn climb<'a>(
     site: &[u8],
     triples: usize,
     rule: &[u8],
-    starts: &[usize; RECORDS],
+    starts: &[u8; RECORDS],
     count: usize,
     up: &'a [u8; RECORDS],
     role: &'a [u8; RECORDS],
@@ -381,14 +385,10 @@ fn climb<'a>(
 {
     let mut at = r;
     loop {
-        let stands = role[at];
-        if stands == AS_WHOLE {
+        let above = parent_of(hints, at);
+        if above <= at {
             return;
         }
-        if stands == AS_TEST {
-            return;
-        }
-        let above = up[at] as usize;
         if !climb_one(
             site,
             triples,
@@ -503,7 +503,7 @@ fn rise<'a>(
     site: &[u8],
     triples: usize,
     rule: &[u8],
-    starts: &[usize; RECORDS],
+    starts: &[u8; RECORDS],
     count: usize,
     up: &'a [u8; RECORDS],
     role: &'a [u8; RECORDS],
@@ -580,7 +580,7 @@ fn take<'a>(
     site: &[u8],
     triples: usize,
     rule: &[u8],
-    starts: &[usize; RECORDS],
+    starts: &[u8; RECORDS],
     count: usize,
     up: &'a [u8; RECORDS],
     role: &'a [u8; RECORDS],
@@ -591,17 +591,17 @@ fn take<'a>(
     hints: &[u16],
     steps: &[u8; RECORDS],
     step: Step,
+    parts: Parts,
     r: usize,
     k: usize,
     side: usize,
     len: usize,
 ) -> usize
-    requires { ⌜ Ready (now site) triples (now rule) (now starts) count (now up) (now role) (now first) × Full (now numbers) × (r < count) × (k < triples) × Stepping (now rule) (now starts) r step × (step .axis ≢ 0) ⌝ }
+    requires { ⌜ Ready (now site) triples (now rule) (now starts) count (now up) (now role) (now first) × Full (now numbers) × (r < count) × (k < triples) × Stepping (now rule) (now starts) r step × (step .axis ≢ 0) × (parts ≡ partsOf (step .axis)) ⌝ }
     ensures { λ _. ⌜ Hinted (now (site .entry)) triples (now (rule .entry)) (now (up .entry)) (now (role .entry)) (now (first .entry)) (goalOf goal) (now (numbers .entry)) (now (numbers .exit)) ⌝ }
 {
-    let axis = step.axis;
     let label = step.label;
-    let m = by_axis(axis, triple_at(site, k));
+    let m = move_at(site, k, parts);
     let t = m.from;
     if reach(m, label, up, role, goal, numbers, r) {
         return rise(
@@ -632,7 +632,7 @@ fn take_all<'a>(
     site: &[u8],
     triples: usize,
     rule: &[u8],
-    starts: &[usize; RECORDS],
+    starts: &[u8; RECORDS],
     count: usize,
     up: &'a [u8; RECORDS],
     role: &'a [u8; RECORDS],
@@ -652,6 +652,7 @@ fn take_all<'a>(
     ensures { λ _. ⌜ Hinted (now (site .entry)) triples (now (rule .entry)) (now (up .entry)) (now (role .entry)) (now (first .entry)) (goalOf goal) (now (numbers .entry)) (now (numbers .exit)) ⌝ }
 {
     let axis = step.axis;
+    let parts = parts_of(axis);
     let mut len = was;
     let mut k = first_to(scratch, axis, u);
     while k < triples {
@@ -670,6 +671,7 @@ fn take_all<'a>(
             hints,
             steps,
             step,
+            parts,
             r,
             k,
             side,
@@ -710,7 +712,7 @@ fn take_step<'a>(
     site: &[u8],
     triples: usize,
     rule: &[u8],
-    starts: &[usize; RECORDS],
+    starts: &[u8; RECORDS],
     count: usize,
     up: &'a [u8; RECORDS],
     role: &'a [u8; RECORDS],
@@ -782,7 +784,7 @@ fn take_record<'a>(
     site: &[u8],
     triples: usize,
     rule: &[u8],
-    starts: &[usize; RECORDS],
+    starts: &[u8; RECORDS],
     count: usize,
     up: &'a [u8; RECORDS],
     role: &'a [u8; RECORDS],
@@ -803,7 +805,7 @@ fn take_record<'a>(
     if count <= r {
         return len;
     }
-    match record_at(rule, starts[r]) {
+    match record_of(rule, starts, r) {
         Record::Step(step) => take_step(
             site,
             triples,
@@ -835,7 +837,7 @@ fn take_set<'a>(
     site: &[u8],
     triples: usize,
     rule: &[u8],
-    starts: &[usize; RECORDS],
+    starts: &[u8; RECORDS],
     count: usize,
     up: &'a [u8; RECORDS],
     role: &'a [u8; RECORDS],
@@ -886,7 +888,7 @@ fn take_term<'a>(
     site: &[u8],
     triples: usize,
     rule: &[u8],
-    starts: &[usize; RECORDS],
+    starts: &[u8; RECORDS],
     count: usize,
     up: &'a [u8; RECORDS],
     role: &'a [u8; RECORDS],
@@ -934,7 +936,7 @@ fn level<'a>(
     site: &[u8],
     triples: usize,
     rule: &[u8],
-    starts: &[usize; RECORDS],
+    starts: &[u8; RECORDS],
     count: usize,
     up: &'a [u8; RECORDS],
     role: &'a [u8; RECORDS],
@@ -982,7 +984,7 @@ fn begin<'a>(
     site: &[u8],
     triples: usize,
     rule: &[u8],
-    starts: &[usize; RECORDS],
+    starts: &[u8; RECORDS],
     count: usize,
     up: &'a [u8; RECORDS],
     role: &'a [u8; RECORDS],
@@ -1030,12 +1032,332 @@ fn begin<'a>(
     open(scratch, 0, len, set, t)
 }
 
-// The body of root b may finish anywhere.
+// A body that ends with a star may finish at t: there the star may pass empty, and what may be last is not opened again. Outside
+// the vocabulary a star does not pass empty, so that what may be last is found once more when the star is entered.
+fn finish_at<'a>(
+    site: &[u8],
+    triples: usize,
+    rule: &[u8],
+    starts: &[u8; RECORDS],
+    count: usize,
+    up: &'a [u8; RECORDS],
+    role: &'a [u8; RECORDS],
+    first: &'a [u8; RECORDS],
+    goal: Goal,
+    scratch: &mut [u8],
+    numbers: &mut [u8],
+    hints: &[u16],
+    b: usize,
+    t: usize,
+)
+    requires { ⌜ Ready (now site) triples (now rule) (now starts) count (now up) (now role) (now first) × Full (now numbers) × (t < terms) ⌝ }
+    ensures { λ _. ⌜ Hinted (now (site .entry)) triples (now (rule .entry)) (now (up .entry)) (now (role .entry)) (now (first .entry)) (goalOf goal) (now (numbers .entry)) (now (numbers .exit)) ⌝ }
+{
+    let k = witness(scratch, t);
+    if triples <= k {
+        return;
+    }
+    pass_empty(
+        site,
+        triples,
+        rule,
+        starts,
+        count,
+        up,
+        role,
+        first,
+        goal,
+        numbers,
+        hints,
+        b,
+        t,
+        k,
+    );
+    put_set(scratch, DONE + t, last_in(hints, b));
+}
+
+// That at each term.
+fn finish_all<'a>(
+    site: &[u8],
+    triples: usize,
+    rule: &[u8],
+    starts: &[u8; RECORDS],
+    count: usize,
+    up: &'a [u8; RECORDS],
+    role: &'a [u8; RECORDS],
+    first: &'a [u8; RECORDS],
+    goal: Goal,
+    scratch: &mut [u8],
+    numbers: &mut [u8],
+    hints: &[u16],
+    b: usize,
+)
+    requires { ⌜ Ready (now site) triples (now rule) (now starts) count (now up) (now role) (now first) × Full (now numbers) ⌝ }
+    ensures { λ _. ⌜ Hinted (now (site .entry)) triples (now (rule .entry)) (now (up .entry)) (now (role .entry)) (now (first .entry)) (goalOf goal) (now (numbers .entry)) (now (numbers .exit)) ⌝ }
+{
+    let mut t = 0;
+    while t < TERMS {
+        finish_at(
+            site,
+            triples,
+            rule,
+            starts,
+            count,
+            up,
+            role,
+            first,
+            goal,
+            scratch,
+            numbers,
+            hints,
+            b,
+            t,
+        );
+        t += 1;
+    }
+}
+
+// These steps are not opened again at any term.
+fn close_all(scratch: &mut [u8], set: usize) {
+    let mut t = 0;
+    while t < TERMS {
+        put_set(scratch, DONE + t, set);
+        t += 1;
+    }
+}
+
+// The body of root b may finish anywhere: what may be last in it is swept, and not opened again.
+fn finish<'a>(
+    site: &[u8],
+    triples: usize,
+    rule: &[u8],
+    starts: &[u8; RECORDS],
+    count: usize,
+    up: &'a [u8; RECORDS],
+    role: &'a [u8; RECORDS],
+    first: &'a [u8; RECORDS],
+    goal: Goal,
+    scratch: &mut [u8],
+    numbers: &mut [u8],
+    hints: &[u16],
+    b: usize,
+)
+    requires { ⌜ Ready (now site) triples (now rule) (now starts) count (now up) (now role) (now first) × Full (now numbers) ⌝ }
+    ensures { λ _. ⌜ Hinted (now (site .entry)) triples (now (rule .entry)) (now (up .entry)) (now (role .entry)) (now (first .entry)) (goalOf goal) (now (numbers .entry)) (now (numbers .exit)) ⌝ }
+{
+    if ends_in_star(hints, b) {
+        finish_all(
+            site,
+            triples,
+            rule,
+            starts,
+            count,
+            up,
+            role,
+            first,
+            goal,
+            scratch,
+            numbers,
+            hints,
+            b,
+        );
+        return;
+    }
+    close_all(scratch, last_in(hints, b));
+}
+
+// A self step of record r at each term.
+fn rest_all<'a>(
+    site: &[u8],
+    triples: usize,
+    up: &'a [u8; RECORDS],
+    role: &'a [u8; RECORDS],
+    goal: Goal,
+    scratch: &[u8],
+    numbers: &mut [u8],
+    label: Label,
+    r: usize,
+)
+    requires { ⌜ Accepted (now site) triples × Full (now numbers) × Climbs records (now up) (now role) × (r < records) × Tests label r ⌝ }
+    ensures { λ _. ⌜ Lowers (frame (siteOf (now (site .entry)) triples) (now (up .entry)) (now (role .entry)) (goalOf goal)) (workOf self label) r (pairs (now (numbers .entry))) (pairs (now (numbers .exit))) ⌝ }
+{
+    let mut t = 0;
+    while t < TERMS {
+        let k = witness(scratch, t);
+        rest_at(site, triples, k, up, role, goal, numbers, label, r, t);
+        t += 1;
+    }
+}
+
+// The step of record r, which may be last in a body that may finish anywhere: in the order of the site.
+fn sweep_last<'a>(
+    site: &[u8],
+    triples: usize,
+    rule: &[u8],
+    starts: &[u8; RECORDS],
+    count: usize,
+    up: &'a [u8; RECORDS],
+    role: &'a [u8; RECORDS],
+    first: &'a [u8; RECORDS],
+    goal: Goal,
+    scratch: &[u8],
+    numbers: &mut [u8],
+    step: Step,
+    r: usize,
+)
+    requires { ⌜ Ready (now site) triples (now rule) (now starts) count (now up) (now role) (now first) × Full (now numbers) × (r < count) × Stepping (now rule) (now starts) r step ⌝ }
+    ensures { λ _. ⌜ Hinted (now (site .entry)) triples (now (rule .entry)) (now (up .entry)) (now (role .entry)) (now (first .entry)) (goalOf goal) (now (numbers .entry)) (now (numbers .exit)) ⌝ }
+{
+    if step.axis != 0 {
+        sweep_axis(site, triples, step, up, role, goal, numbers, r, false);
+        return;
+    }
+    let label = step.label;
+    rest_all(site, triples, up, role, goal, scratch, numbers, label, r);
+}
+
+// Record r, which is a step if the hint is right.
+fn sweep_if<'a>(
+    site: &[u8],
+    triples: usize,
+    rule: &[u8],
+    starts: &[u8; RECORDS],
+    count: usize,
+    up: &'a [u8; RECORDS],
+    role: &'a [u8; RECORDS],
+    first: &'a [u8; RECORDS],
+    goal: Goal,
+    scratch: &[u8],
+    numbers: &mut [u8],
+    r: usize,
+)
+    requires { ⌜ Ready (now site) triples (now rule) (now starts) count (now up) (now role) (now first) × Full (now numbers) ⌝ }
+    ensures { λ _. ⌜ Hinted (now (site .entry)) triples (now (rule .entry)) (now (up .entry)) (now (role .entry)) (now (first .entry)) (goalOf goal) (now (numbers .entry)) (now (numbers .exit)) ⌝ }
+{
+    if count <= r {
+        return;
+    }
+    if let Record::Step(step) = record_of(rule, starts, r) {
+        sweep_last(
+            site,
+            triples,
+            rule,
+            starts,
+            count,
+            up,
+            role,
+            first,
+            goal,
+            scratch,
+            numbers,
+            step,
+            r,
+        );
+    }
+}
+
+// What may come before step record r, if it has an entry at t, is open there at the first level, whose length is handed on.
+fn rise_if<'a>(
+    site: &[u8],
+    triples: usize,
+    rule: &[u8],
+    starts: &[u8; RECORDS],
+    count: usize,
+    up: &'a [u8; RECORDS],
+    role: &'a [u8; RECORDS],
+    first: &'a [u8; RECORDS],
+    goal: Goal,
+    scratch: &mut [u8],
+    numbers: &mut [u8],
+    hints: &[u16],
+    steps: &[u8; RECORDS],
+    r: usize,
+    t: usize,
+    len: usize,
+) -> usize
+    requires { ⌜ Ready (now site) triples (now rule) (now starts) count (now up) (now role) (now first) × Full (now numbers) × (r < records) × (t < terms) ⌝ }
+    ensures { λ _. ⌜ Hinted (now (site .entry)) triples (now (rule .entry)) (now (up .entry)) (now (role .entry)) (now (first .entry)) (goalOf goal) (now (numbers .entry)) (now (numbers .exit)) ⌝ }
+{
+    if number(numbers, r, t) < NONE {
+        return rise(
+            site,
+            triples,
+            rule,
+            starts,
+            count,
+            up,
+            role,
+            first,
+            goal,
+            scratch,
+            numbers,
+            hints,
+            steps,
+            r,
+            t,
+            0,
+            len,
+        );
+    }
+    len
+}
+
+// That at each term.
+fn rise_all<'a>(
+    site: &[u8],
+    triples: usize,
+    rule: &[u8],
+    starts: &[u8; RECORDS],
+    count: usize,
+    up: &'a [u8; RECORDS],
+    role: &'a [u8; RECORDS],
+    first: &'a [u8; RECORDS],
+    goal: Goal,
+    scratch: &mut [u8],
+    numbers: &mut [u8],
+    hints: &[u16],
+    steps: &[u8; RECORDS],
+    r: usize,
+    was: usize,
+) -> usize
+    requires { ⌜ Ready (now site) triples (now rule) (now starts) count (now up) (now role) (now first) × Full (now numbers) ⌝ }
+    ensures { λ _. ⌜ Hinted (now (site .entry)) triples (now (rule .entry)) (now (up .entry)) (now (role .entry)) (now (first .entry)) (goalOf goal) (now (numbers .entry)) (now (numbers .exit)) ⌝ }
+{
+    if RECORDS <= r {
+        return was;
+    }
+    let mut len = was;
+    let mut t = 0;
+    while t < TERMS {
+        len = rise_if(
+            site,
+            triples,
+            rule,
+            starts,
+            count,
+            up,
+            role,
+            first,
+            goal,
+            scratch,
+            numbers,
+            hints,
+            steps,
+            r,
+            t,
+            len,
+        );
+        t += 1;
+    }
+    len
+}
+
+// The first level of a body that may finish anywhere: what may be last in it is swept, and what comes before is open.
 fn begin_all<'a>(
     site: &[u8],
     triples: usize,
     rule: &[u8],
-    starts: &[usize; RECORDS],
+    starts: &[u8; RECORDS],
     count: usize,
     up: &'a [u8; RECORDS],
     role: &'a [u8; RECORDS],
@@ -1050,10 +1372,42 @@ fn begin_all<'a>(
     requires { ⌜ Ready (now site) triples (now rule) (now starts) count (now up) (now role) (now first) × Full (now numbers) ⌝ }
     ensures { λ _. ⌜ Hinted (now (site .entry)) triples (now (rule .entry)) (now (up .entry)) (now (role .entry)) (now (first .entry)) (goalOf goal) (now (numbers .entry)) (now (numbers .exit)) ⌝ }
 {
+    finish(
+        site,
+        triples,
+        rule,
+        starts,
+        count,
+        up,
+        role,
+        first,
+        goal,
+        scratch,
+        numbers,
+        hints,
+        b,
+    );
     let mut len = 0;
-    let mut t = 0;
-    while t < TERMS {
-        len = begin(
+    let mut rest = last_in(hints, b);
+    while rest != 0 {
+        let bit = usize::trailing_zeros(rest) as usize % RECORDS;
+        rest = rest & (rest - 1);
+        let r = wide(steps[bit]);
+        sweep_if(
+            site,
+            triples,
+            rule,
+            starts,
+            count,
+            up,
+            role,
+            first,
+            goal,
+            scratch,
+            numbers,
+            r,
+        );
+        len = rise_all(
             site,
             triples,
             rule,
@@ -1067,11 +1421,9 @@ fn begin_all<'a>(
             numbers,
             hints,
             steps,
-            b,
-            t,
+            r,
             len,
         );
-        t += 1;
     }
     len
 }
@@ -1081,7 +1433,7 @@ fn begin_body<'a>(
     site: &[u8],
     triples: usize,
     rule: &[u8],
-    starts: &[usize; RECORDS],
+    starts: &[u8; RECORDS],
     count: usize,
     up: &'a [u8; RECORDS],
     role: &'a [u8; RECORDS],
@@ -1140,7 +1492,7 @@ fn begin_if<'a>(
     site: &[u8],
     triples: usize,
     rule: &[u8],
-    starts: &[usize; RECORDS],
+    starts: &[u8; RECORDS],
     count: usize,
     up: &'a [u8; RECORDS],
     role: &'a [u8; RECORDS],
@@ -1195,7 +1547,7 @@ fn run_levels<'a>(
     site: &[u8],
     triples: usize,
     rule: &[u8],
-    starts: &[usize; RECORDS],
+    starts: &[u8; RECORDS],
     count: usize,
     up: &'a [u8; RECORDS],
     role: &'a [u8; RECORDS],
@@ -1240,7 +1592,7 @@ fn run_levels<'a>(
 // What may be last and what may come before in the body of root b; no step of it is open yet.
 fn prepare<'a>(
     rule: &[u8],
-    starts: &[usize; RECORDS],
+    starts: &[u8; RECORDS],
     first: &'a [u8; RECORDS],
     scratch: &mut [u8],
     hints: &mut [u16],
@@ -1259,7 +1611,7 @@ fn search<'a>(
     site: &[u8],
     triples: usize,
     rule: &[u8],
-    starts: &[usize; RECORDS],
+    starts: &[u8; RECORDS],
     count: usize,
     up: &'a [u8; RECORDS],
     role: &'a [u8; RECORDS],
@@ -1314,7 +1666,7 @@ fn search_if<'a>(
     site: &[u8],
     triples: usize,
     rule: &[u8],
-    starts: &[usize; RECORDS],
+    starts: &[u8; RECORDS],
     count: usize,
     up: &'a [u8; RECORDS],
     role: &'a [u8; RECORDS],
@@ -1354,7 +1706,7 @@ fn search_all<'a>(
     site: &[u8],
     triples: usize,
     rule: &[u8],
-    starts: &[usize; RECORDS],
+    starts: &[u8; RECORDS],
     count: usize,
     up: &'a [u8; RECORDS],
     role: &'a [u8; RECORDS],
@@ -1398,7 +1750,7 @@ pub fn levels<'a>(
     site: &[u8],
     triples: usize,
     rule: &[u8],
-    starts: &[usize; RECORDS],
+    starts: &[u8; RECORDS],
     count: usize,
     up: &'a [u8; RECORDS],
     role: &'a [u8; RECORDS],

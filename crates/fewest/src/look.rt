@@ -6,16 +6,17 @@ use crate::table::number;
 use records::Label;
 use records::NONE;
 use records::RECORDS;
-use records::Step;
-use records::Triple;
-use records::site::triple_at;
+use records::site::OBJECT;
+use records::site::PREDICATE;
+use records::site::SUBJECT;
+use records::site::term_at;
 ghost use mathlib.Core.Path.{_≡_};
 ghost use Prim.Native.Nat.{_<_};
 ghost use Rattle.meaning.specs.Limits.{terms, records};
 ghost use Rattle.fewest.specs.Pairs.{pairs};
 ghost use Rattle.fewest.specs.Frame.{Climbs};
 ghost use Rattle.fewest.specs.Table.{Full};
-ghost use Rattle.fewest.specs.Work.{goalOf, Tests, allowing, movedBy, Has, Looked, Rested};
+ghost use Rattle.fewest.specs.Work.{goalOf, Tests, allowing, partsOf, Axial, movedAt, Has, Looked, Rested};
 
 // A triple as an axis takes it: from a term to a term, past a middle.
 pub struct Moved {
@@ -24,45 +25,60 @@ pub struct Moved {
     pub to: usize,
 }
 
-// A triple as the axis takes it, one of the six that take a triple.
-pub fn by_axis(axis: usize, x: Triple) -> Moved
-    ensures { λ r. ⌜ r ≡ movedBy axis x ⌝ }
+// Where the terms stand in a triple's record, as an axis takes them.
+pub struct Parts {
+    pub from: usize,
+    pub middle: usize,
+    pub to: usize,
+}
+
+// As the axis with this number takes them, one of the six that take a triple.
+pub fn parts_of(axis: usize) -> Parts
+    ensures { λ r. ⌜ r ≡ partsOf axis ⌝ }
 {
-    let s = x.subject;
-    let p = x.predicate;
-    let o = x.object;
     match axis {
-        1 => Moved {
-            from: s,
-            middle: p,
-            to: o,
+        1 => Parts {
+            from: SUBJECT,
+            middle: PREDICATE,
+            to: OBJECT,
         },
-        2 => Moved {
-            from: o,
-            middle: p,
-            to: s,
+        2 => Parts {
+            from: OBJECT,
+            middle: PREDICATE,
+            to: SUBJECT,
         },
-        3 => Moved {
-            from: s,
-            middle: o,
-            to: p,
+        3 => Parts {
+            from: SUBJECT,
+            middle: OBJECT,
+            to: PREDICATE,
         },
-        4 => Moved {
-            from: p,
-            middle: o,
-            to: s,
+        4 => Parts {
+            from: PREDICATE,
+            middle: OBJECT,
+            to: SUBJECT,
         },
-        5 => Moved {
-            from: p,
-            middle: s,
-            to: o,
+        5 => Parts {
+            from: PREDICATE,
+            middle: SUBJECT,
+            to: OBJECT,
         },
-        _ => Moved {
-            from: o,
-            middle: s,
-            to: p,
+        _ => Parts {
+            from: OBJECT,
+            middle: SUBJECT,
+            to: PREDICATE,
         },
     }
+}
+
+// Triple k, its terms read where they stand. Which axis it is was decided before the loop that goes by triples.
+pub fn move_at(site: &[u8], k: usize, parts: Parts) -> Moved
+    requires { ⌜ Has (now site) k × Axial parts ⌝ }
+    ensures { λ r. ⌜ r ≡ movedAt (now (site .entry)) k parts ⌝ }
+{
+    let from = term_at(site, k, parts.from);
+    let middle = term_at(site, k, parts.middle);
+    let to = term_at(site, k, parts.to);
+    Moved { from, middle, to }
 }
 
 // The label of record r lets this middle pass. Its test is the row before.
@@ -81,7 +97,8 @@ pub fn allows(numbers: &[u8], label: Label, r: usize, middle: usize) -> bool
 pub fn look<'a>(
     site: &[u8],
     k: usize,
-    step: Step,
+    parts: Parts,
+    label: Label,
     up: &'a [u8; RECORDS],
     role: &'a [u8; RECORDS],
     goal: Goal,
@@ -89,12 +106,10 @@ pub fn look<'a>(
     r: usize,
     was: bool,
 ) -> bool
-    requires { ⌜ Has (now site) k × Full (now numbers) × Climbs records (now up) (now role) × (r < records) × Tests (step .label) r ⌝ }
-    ensures { λ changed. ⌜ Looked (now (site .entry)) k step (now (up .entry)) (now (role .entry)) (goalOf goal) r (pairs (now (numbers .entry))) (pairs (now (numbers .exit))) was changed ⌝ }
+    requires { ⌜ Has (now site) k × Full (now numbers) × Climbs records (now up) (now role) × (r < records) × Tests label r × Axial parts ⌝ }
+    ensures { λ changed. ⌜ Looked (now (site .entry)) k parts label (now (up .entry)) (now (role .entry)) (goalOf goal) r (pairs (now (numbers .entry))) (pairs (now (numbers .exit))) was changed ⌝ }
 {
-    let axis = step.axis;
-    let label = step.label;
-    let m = by_axis(axis, triple_at(site, k));
+    let m = move_at(site, k, parts);
     if allows(numbers, label, r, m.middle) {
         let rest = left(numbers, up, role, goal, r, m.to);
         return lower(numbers, r, m.from, rest + 1, was);

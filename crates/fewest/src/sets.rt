@@ -5,10 +5,12 @@ use crate::pairs::wide;
 use records::Label;
 use records::RECORDS;
 use records::Record;
-use records::rule::record_at;
+use records::rule::record_of;
+ghost use Prim.Native.Nat.{_<_};
+ghost use Rattle.meaning.specs.Limits.{records};
 
 // The columns, an entry a record: its size and flags, its place in the order second operand, first operand, record, the record at
-// a place, the last record of its body, the steps that may be last in it, and those that may come before.
+// a place, the last record of its body, the steps that may be last in it, those that may come before, and its parent in its body.
 const SIZE: usize = 0;
 
 const PLACE: usize = SIZE + RECORDS;
@@ -21,7 +23,9 @@ const LAST: usize = ROOT + RECORDS;
 
 const BEFORE: usize = LAST + RECORDS;
 
-pub const HINTS: usize = BEFORE + RECORDS;
+const PARENT: usize = BEFORE + RECORDS;
+
+pub const HINTS: usize = PARENT + RECORDS;
 
 // Flags beside the size: the expression may pass empty at a term of the vocabulary; it may end with a star.
 const EMPTY: usize = 64;
@@ -70,6 +74,13 @@ pub fn record_in(hints: &[u16], place: usize) -> usize {
 
 pub fn root_of(hints: &[u16], r: usize) -> usize {
     hint(hints, ROOT + r % RECORDS) % RECORDS
+}
+
+// The record of its parent; 0, which is no parent's, for the last record of a body.
+pub fn parent_of(hints: &[u16], r: usize) -> usize
+    ensures { λ p. ⌜ p < records ⌝ }
+{
+    hint(hints, PARENT + r % RECORDS) % RECORDS
 }
 
 pub fn last_in(hints: &[u16], r: usize) -> usize {
@@ -134,11 +145,12 @@ fn sized(rec: Record, first: usize, second: usize, hints: &[u16]) -> usize {
     }
 }
 
-// Record r stands at this place, in the body of this root.
-fn stand(hints: &mut [u16], r: usize, place: usize, root: usize) {
+// Record r stands at this place, in the body of this root, below this parent.
+fn stand(hints: &mut [u16], r: usize, place: usize, root: usize, parent: usize) {
     put_hint(hints, PLACE + r % RECORDS, place);
     put_hint(hints, ORDER + place % RECORDS, r);
     put_hint(hints, ROOT + r % RECORDS, root);
+    put_hint(hints, PARENT + r % RECORDS, parent);
 }
 
 // The operands of record r take their places before it.
@@ -151,25 +163,30 @@ fn order(rec: Record, first: usize, second: usize, r: usize, hints: &mut [u16]) 
             match label {
                 Label::Any => {}
                 Label::Term(_) => {}
-                Label::Test => stand(hints, second, place, second),
+                Label::Test => stand(hints, second, place, second, 0),
             }
         }
-        Record::Sequence => order_join(first, second, place, root, hints),
-        Record::Choice => order_join(first, second, place, root, hints),
-        Record::Star => stand(hints, second, place, root),
+        Record::Sequence => order_join(first, second, place, root, r, hints),
+        Record::Choice => order_join(first, second, place, root, r, hints),
+        Record::Star => stand(hints, second, place, root, r),
     }
 }
 
-fn order_join(first: usize, second: usize, place: usize, root: usize, hints: &mut [u16]) {
-    stand(hints, first, place, root);
+fn order_join(first: usize, second: usize, place: usize, root: usize, r: usize, hints: &mut [u16]) {
+    stand(hints, first, place, root, r);
     let size = size_of(hints, first);
-    stand(hints, second, less(place, size), root);
+    stand(hints, second, less(place, size), root, r);
+}
+
+// Record r; of a number past the last, some record.
+fn some_record(rule: &[u8], starts: &[u8; RECORDS], r: usize) -> Record {
+    record_of(rule, starts, r % RECORDS)
 }
 
 // Record r's size, and the places of its operands.
 fn size_at<'a>(
     rule: &[u8],
-    starts: &[usize; RECORDS],
+    starts: &[u8; RECORDS],
     first: &'a [u8; RECORDS],
     r: usize,
     hints: &mut [u16],
@@ -178,7 +195,7 @@ fn size_at<'a>(
         return;
     }
     let v = sized(
-        record_at(rule, starts[r]),
+        some_record(rule, starts, r),
         wide(first[r]),
         less(r, 1),
         hints,
@@ -188,7 +205,7 @@ fn size_at<'a>(
 
 fn order_at<'a>(
     rule: &[u8],
-    starts: &[usize; RECORDS],
+    starts: &[u8; RECORDS],
     first: &'a [u8; RECORDS],
     r: usize,
     hints: &mut [u16],
@@ -197,7 +214,7 @@ fn order_at<'a>(
         return;
     }
     order(
-        record_at(rule, starts[r]),
+        some_record(rule, starts, r),
         wide(first[r]),
         less(r, 1),
         r,
@@ -208,7 +225,7 @@ fn order_at<'a>(
 // The sizes of all records, from the first to the last.
 pub fn sizes<'a>(
     rule: &[u8],
-    starts: &[usize; RECORDS],
+    starts: &[u8; RECORDS],
     count: usize,
     first: &'a [u8; RECORDS],
     hints: &mut [u16],
@@ -223,13 +240,13 @@ pub fn sizes<'a>(
 // The places of all records, from the last to the first.
 pub fn orders<'a>(
     rule: &[u8],
-    starts: &[usize; RECORDS],
+    starts: &[u8; RECORDS],
     count: usize,
     first: &'a [u8; RECORDS],
     hints: &mut [u16],
 ) {
     let whole = less(count, 1);
-    stand(hints, whole, whole, whole);
+    stand(hints, whole, whole, whole, 0);
     let mut r = count;
     while 0 < r {
         r -= 1;
@@ -295,7 +312,7 @@ fn before_of(rec: Record, first: usize, second: usize, r: usize, hints: &mut [u1
 // Record r, if it stands in the body of root b.
 fn last_if<'a>(
     rule: &[u8],
-    starts: &[usize; RECORDS],
+    starts: &[u8; RECORDS],
     first: &'a [u8; RECORDS],
     b: usize,
     r: usize,
@@ -310,7 +327,7 @@ fn last_if<'a>(
         return n;
     }
     last_of(
-        record_at(rule, starts[r]),
+        some_record(rule, starts, r),
         wide(first[r]),
         less(r, 1),
         r,
@@ -322,7 +339,7 @@ fn last_if<'a>(
 
 fn before_if<'a>(
     rule: &[u8],
-    starts: &[usize; RECORDS],
+    starts: &[u8; RECORDS],
     first: &'a [u8; RECORDS],
     b: usize,
     r: usize,
@@ -333,7 +350,7 @@ fn before_if<'a>(
     }
     if root_of(hints, r) == b {
         before_of(
-            record_at(rule, starts[r]),
+            some_record(rule, starts, r),
             wide(first[r]),
             less(r, 1),
             r,
@@ -345,7 +362,7 @@ fn before_if<'a>(
 // What may be last in the records of the body of root b, and its steps, by their bits.
 pub fn lasts<'a>(
     rule: &[u8],
-    starts: &[usize; RECORDS],
+    starts: &[u8; RECORDS],
     first: &'a [u8; RECORDS],
     b: usize,
     steps: &mut [u8; RECORDS],
@@ -365,7 +382,7 @@ pub fn lasts<'a>(
 // What may come before the records of the body of root b.
 pub fn befores<'a>(
     rule: &[u8],
-    starts: &[usize; RECORDS],
+    starts: &[u8; RECORDS],
     first: &'a [u8; RECORDS],
     b: usize,
     hints: &mut [u16],

@@ -2,27 +2,26 @@
 use crate::Goal;
 use crate::levels::levels;
 use crate::look::look;
+use crate::look::parts_of;
 use crate::look::rest;
 use crate::table::lower;
 use crate::table::number;
-use crate::threads::first_object;
-use crate::threads::first_subject;
 use records::Label;
 use records::RECORDS;
 use records::Record;
 use records::Step;
 use records::TERMS;
-use records::rule::record_at;
-use records::site::triple_at;
+use records::rule::record_of;
 ghost use mathlib.Core.Path.{_≡_};
 ghost use Prim.Native.Nat.{_*_, _<_};
 ghost use lib.ListN.{replicate};
 ghost use Rattle.meaning.specs.Limits.{terms, records, none};
-ghost use Rattle.records.specs.Sites.{Accepted};
+ghost use Rattle.records.specs.Sites.{Accepted, siteOf};
+ghost use Rattle.records.specs.Words.{WordsOf};
 ghost use Rattle.fewest.specs.Pairs.{pairs};
 ghost use Rattle.fewest.specs.Frame.{Climbs};
 ghost use Rattle.fewest.specs.Table.{Full};
-ghost use Rattle.fewest.specs.Work.{goalOf, Tests, Has, StandsEarlier, RowSwept, RestedNew, RestedBy, RestsSwept, AxisSwept, StepSwept, Sits, RecordSwept, Ready, SweptOver, SettledOver};
+ghost use Rattle.fewest.specs.Work.{goalOf, Tests, RowSwept, RestsSwept, AxisSwept, StepSwept, Sits, RecordSwept, Ready, SweptOver, SettledOver};
 
 // Row r is lowered to row a, place by place.
 fn sweep_row(numbers: &mut [u8], r: usize, a: usize, was: bool) -> bool
@@ -39,103 +38,9 @@ fn sweep_row(numbers: &mut [u8], r: usize, a: usize, was: bool) -> bool
     changed
 }
 
-// The term stands in triple j, which comes before triple k, as its subject or its object.
-pub fn stands_earlier(site: &[u8], k: usize, j: usize, t: usize) -> bool
-    requires { ⌜ Has (now site) k ⌝ }
-    ensures { λ b. ⌜ StandsEarlier (now (site .entry)) k t b ⌝ }
-{
-    if k <= j {
-        return false;
-    }
-    let x = triple_at(site, j);
-    if x.subject == t {
-        return true;
-    }
-    if x.object == t {
-        return true;
-    }
-    false
-}
-
-// Staying at t, which stands in triple k, for record r; where it stands in triple j before it, that was looked at already.
-fn rest_new<'a>(
-    site: &[u8],
-    k: usize,
-    j: usize,
-    up: &'a [u8; RECORDS],
-    role: &'a [u8; RECORDS],
-    goal: Goal,
-    numbers: &mut [u8],
-    label: Label,
-    cost: usize,
-    r: usize,
-    t: usize,
-    was: bool,
-) -> bool
-    requires { ⌜ Has (now site) k × Full (now numbers) × Climbs records (now up) (now role) × (r < records) × (t < terms) × Tests label r × (cost < 2) ⌝ }
-    ensures { λ changed. ⌜ RestedNew (now (site .entry)) k (now (up .entry)) (now (role .entry)) (goalOf goal) label cost r t (pairs (now (numbers .entry))) (pairs (now (numbers .exit))) was changed ⌝ }
-{
-    if stands_earlier(site, k, j, t) {
-        return was;
-    }
-    rest(up, role, goal, numbers, label, cost, r, t, was)
-}
-
-// Staying at the subject and at the object of triple k, for record r. The first triples with these terms are hints.
-fn rest_by<'a>(
-    site: &[u8],
-    scratch: &[u8],
-    k: usize,
-    up: &'a [u8; RECORDS],
-    role: &'a [u8; RECORDS],
-    goal: Goal,
-    numbers: &mut [u8],
-    label: Label,
-    cost: usize,
-    r: usize,
-    was: bool,
-) -> bool
-    requires { ⌜ Has (now site) k × Full (now numbers) × Climbs records (now up) (now role) × (r < records) × Tests label r × (cost < 2) ⌝ }
-    ensures { λ changed. ⌜ RestedBy (now (site .entry)) k (now (up .entry)) (now (role .entry)) (goalOf goal) label cost r (pairs (now (numbers .entry))) (pairs (now (numbers .exit))) was changed ⌝ }
-{
-    let x = triple_at(site, k);
-    let j = first_subject(scratch, x.subject);
-    let i = first_object(scratch, x.object);
-    let first = rest_new(
-        site,
-        k,
-        j,
-        up,
-        role,
-        goal,
-        numbers,
-        label,
-        cost,
-        r,
-        x.subject,
-        was,
-    );
-    rest_new(
-        site,
-        k,
-        i,
-        up,
-        role,
-        goal,
-        numbers,
-        label,
-        cost,
-        r,
-        x.object,
-        first,
-    )
-}
-
 // Staying at each vocabulary term, for record r.
 fn sweep_rests<'a>(
-    site: &[u8],
-    scratch: &[u8],
-    triples: usize,
+    words: &[u8; TERMS],
     up: &'a [u8; RECORDS],
     role: &'a [u8; RECORDS],
     goal: Goal,
@@ -145,32 +50,22 @@ fn sweep_rests<'a>(
     r: usize,
     was: bool,
 ) -> bool
-    requires { ⌜ Accepted (now site) triples × Full (now numbers) × Climbs records (now up) (now role) × (r < records) × Tests label r × (cost < 2) ⌝ }
-    ensures { λ changed. ⌜ RestsSwept (now (site .entry)) triples (now (up .entry)) (now (role .entry)) (goalOf goal) label cost r (pairs (now (numbers .entry))) (pairs (now (numbers .exit))) was changed ⌝ }
+    requires { ⌜ Full (now numbers) × Climbs records (now up) (now role) × (r < records) × Tests label r × (cost < 2) ⌝ }
+    ensures { λ changed. ⌜ RestsSwept (now (words .entry)) (now (up .entry)) (now (role .entry)) (goalOf goal) label cost r (pairs (now (numbers .entry))) (pairs (now (numbers .exit))) was changed ⌝ }
 {
     let mut changed = was;
-    let mut k = 0;
-    while k < triples {
-        changed = rest_by(
-            site,
-            scratch,
-            k,
-            up,
-            role,
-            goal,
-            numbers,
-            label,
-            cost,
-            r,
-            changed,
-        );
-        k += 1;
+    let mut t = 0;
+    while t < TERMS {
+        if words[t] == 1 {
+            changed = rest(up, role, goal, numbers, label, cost, r, t, changed);
+        }
+        t += 1;
     }
     changed
 }
 
 // Each triple for the step of record r, whose axis takes triples.
-fn sweep_axis<'a>(
+pub fn sweep_axis<'a>(
     site: &[u8],
     triples: usize,
     step: Step,
@@ -184,10 +79,12 @@ fn sweep_axis<'a>(
     requires { ⌜ Accepted (now site) triples × Full (now numbers) × Climbs records (now up) (now role) × (r < records) × Tests (step .label) r ⌝ }
     ensures { λ changed. ⌜ AxisSwept (now (site .entry)) triples step (now (up .entry)) (now (role .entry)) (goalOf goal) r (pairs (now (numbers .entry))) (pairs (now (numbers .exit))) was changed ⌝ }
 {
+    let parts = parts_of(step.axis);
+    let label = step.label;
     let mut changed = was;
     let mut k = 0;
     while k < triples {
-        changed = look(site, k, step, up, role, goal, numbers, r, changed);
+        changed = look(site, k, parts, label, up, role, goal, numbers, r, changed);
         k += 1;
     }
     changed
@@ -196,7 +93,7 @@ fn sweep_axis<'a>(
 // The step of record r, whatever its axis: self stays, at its named term or at each vocabulary term.
 fn sweep_step<'a>(
     site: &[u8],
-    scratch: &[u8],
+    words: &[u8; TERMS],
     triples: usize,
     step: Step,
     up: &'a [u8; RECORDS],
@@ -206,7 +103,7 @@ fn sweep_step<'a>(
     r: usize,
     was: bool,
 ) -> bool
-    requires { ⌜ Accepted (now site) triples × Full (now numbers) × Climbs records (now up) (now role) × (r < records) × Tests (step .label) r ⌝ }
+    requires { ⌜ Accepted (now site) triples × Full (now numbers) × Climbs records (now up) (now role) × (r < records) × Tests (step .label) r × WordsOf (siteOf (now site) triples) (now words) ⌝ }
     ensures { λ changed. ⌜ StepSwept (now (site .entry)) triples step (now (up .entry)) (now (role .entry)) (goalOf goal) r (pairs (now (numbers .entry))) (pairs (now (numbers .exit))) was changed ⌝ }
 {
     if step.axis != 0 {
@@ -216,25 +113,13 @@ fn sweep_step<'a>(
     if let Label::Term(term) = label {
         return rest(up, role, goal, numbers, label, 1, r, term, was);
     }
-    sweep_rests(
-        site,
-        scratch,
-        triples,
-        up,
-        role,
-        goal,
-        numbers,
-        label,
-        1,
-        r,
-        was,
-    )
+    sweep_rests(words, up, role, goal, numbers, label, 1, r, was)
 }
 
 // The row of record r, by its record; `first` is the record of a join's first operand.
 fn sweep_record<'a>(
     site: &[u8],
-    scratch: &[u8],
+    words: &[u8; TERMS],
     triples: usize,
     rec: Record,
     first: usize,
@@ -245,13 +130,13 @@ fn sweep_record<'a>(
     r: usize,
     was: bool,
 ) -> bool
-    requires { ⌜ Accepted (now site) triples × Full (now numbers) × Climbs records (now up) (now role) × (r < records) × Sits rec r × (first < records) ⌝ }
+    requires { ⌜ Accepted (now site) triples × Full (now numbers) × Climbs records (now up) (now role) × (r < records) × Sits rec r × (first < records) × WordsOf (siteOf (now site) triples) (now words) ⌝ }
     ensures { λ changed. ⌜ RecordSwept (now (site .entry)) triples rec first (now (up .entry)) (now (role .entry)) (goalOf goal) r (pairs (now (numbers .entry))) (pairs (now (numbers .exit))) was changed ⌝ }
 {
     match rec {
         Record::Step(step) => sweep_step(
             site,
-            scratch,
+            words,
             triples,
             step,
             up,
@@ -268,19 +153,7 @@ fn sweep_record<'a>(
         }
         Record::Star => {
             let one = sweep_row(numbers, r, r - 1, was);
-            sweep_rests(
-                site,
-                scratch,
-                triples,
-                up,
-                role,
-                goal,
-                numbers,
-                Label::Any,
-                0,
-                r,
-                one,
-            )
+            sweep_rests(words, up, role, goal, numbers, Label::Any, 0, r, one)
         }
     }
 }
@@ -288,10 +161,10 @@ fn sweep_record<'a>(
 // Every row once. False where nothing changed.
 fn sweep<'a>(
     site: &[u8],
-    scratch: &[u8],
+    words: &[u8; TERMS],
     triples: usize,
     rule: &[u8],
-    starts: &[usize; RECORDS],
+    starts: &[u8; RECORDS],
     count: usize,
     up: &'a [u8; RECORDS],
     role: &'a [u8; RECORDS],
@@ -299,17 +172,17 @@ fn sweep<'a>(
     goal: Goal,
     numbers: &mut [u8],
 ) -> bool
-    requires { ⌜ Ready (now site) triples (now rule) (now starts) count (now up) (now role) (now first) × Full (now numbers) ⌝ }
+    requires { ⌜ Ready (now site) triples (now rule) (now starts) count (now up) (now role) (now first) × Full (now numbers) × WordsOf (siteOf (now site) triples) (now words) ⌝ }
     ensures { λ changed. ⌜ SweptOver (now (site .entry)) triples (now (rule .entry)) (now (up .entry)) (now (role .entry)) (now (first .entry)) (goalOf goal) (pairs (now (numbers .entry))) (pairs (now (numbers .exit))) changed ⌝ }
 {
     let mut changed = false;
     let mut r = 0;
     while r < count {
-        let rec = record_at(rule, starts[r]);
+        let rec = record_of(rule, starts, r);
         let operand = first[r] as usize;
         changed = sweep_record(
             site,
-            scratch,
+            words,
             triples,
             rec,
             operand,
@@ -328,10 +201,10 @@ fn sweep<'a>(
 // Sweeps until one changes nothing.
 pub fn settle<'a>(
     site: &[u8],
-    scratch: &[u8],
+    words: &[u8; TERMS],
     triples: usize,
     rule: &[u8],
-    starts: &[usize; RECORDS],
+    starts: &[u8; RECORDS],
     count: usize,
     up: &'a [u8; RECORDS],
     role: &'a [u8; RECORDS],
@@ -339,12 +212,12 @@ pub fn settle<'a>(
     goal: Goal,
     numbers: &mut [u8],
 )
-    requires { ⌜ Ready (now site) triples (now rule) (now starts) count (now up) (now role) (now first) × Full (now numbers) ⌝ }
+    requires { ⌜ Ready (now site) triples (now rule) (now starts) count (now up) (now role) (now first) × Full (now numbers) × WordsOf (siteOf (now site) triples) (now words) ⌝ }
     ensures { λ _. ⌜ SettledOver (now (site .entry)) triples (now (rule .entry)) (now (up .entry)) (now (role .entry)) (now (first .entry)) (goalOf goal) (pairs (now (numbers .entry))) (pairs (now (numbers .exit))) ⌝ }
 {
     while sweep(
         site,
-        scratch,
+        words,
         triples,
         rule,
         starts,
@@ -375,16 +248,17 @@ pub fn fill<'a>(
     site: &[u8],
     triples: usize,
     rule: &[u8],
-    starts: &[usize; RECORDS],
+    starts: &[u8; RECORDS],
     count: usize,
     up: &'a [u8; RECORDS],
     role: &'a [u8; RECORDS],
     first: &'a [u8; RECORDS],
     goal: Goal,
+    words: &[u8; TERMS],
     scratch: &mut [u8],
     numbers: &mut [u8],
 )
-    requires { ⌜ Ready (now site) triples (now rule) (now starts) count (now up) (now role) (now first) × Full (now numbers) ⌝ }
+    requires { ⌜ Ready (now site) triples (now rule) (now starts) count (now up) (now role) (now first) × Full (now numbers) × WordsOf (siteOf (now site) triples) (now words) ⌝ }
     ensures { λ _. ⌜ SettledOver (now (site .entry)) triples (now (rule .entry)) (now (up .entry)) (now (role .entry)) (now (first .entry)) (goalOf goal) (replicate (records * terms) none) (pairs (now (numbers .exit))) ⌝ }
 {
     clear(numbers);
@@ -403,7 +277,7 @@ pub fn fill<'a>(
     );
     settle(
         site,
-        scratch,
+        words,
         triples,
         rule,
         starts,

@@ -1,14 +1,19 @@
-// The triples threaded by their terms, in scratch: for each term the first triple with that subject, predicate or object, and for
-// each triple the next with the same predicate and with the same object; the site itself is in the order of subjects. A hint.
+// The triples threaded by their terms, in scratch: for each term the first triple with that subject, predicate or object, and for each
+// triple the next with the same predicate and with the same object, none left out. By subject the site is in order: there a hint.
 use crate::cells::CELL;
 use crate::cells::cell;
-use crate::cells::put_cell;
+use crate::cells::put_new;
 use records::TERMS;
 use records::TRIPLES;
 use records::site::triple_at;
-ghost use Prim.Native.Nat.{_<_};
+ghost use Prim.Native.Nat.{_*_, _<_};
+ghost use mathlib.Core.Path.{_≡_};
+ghost use lib.ListN.{length};
+ghost use Rattle.meaning.specs.Limits.{terms, records};
 ghost use Rattle.records.specs.Sites.{Accepted};
+ghost use Rattle.fewest.specs.Cells.{values, cells};
 ghost use Rattle.fewest.specs.Work.{Has};
+ghost use Rattle.fewest.specs.Threads.{Blank, Headed, ThreadedOne, Threads, FirstFrom, NextFrom};
 
 // Where the first triples and the next ones stand; what is behind them is free.
 const SUBJECT: usize = 0;
@@ -24,7 +29,9 @@ const NEXT_OBJECT: usize = NEXT_PREDICATE + TRIPLES;
 pub const FREE: usize = NEXT_OBJECT + TRIPLES;
 
 // Every cell names nothing.
-fn clear(scratch: &mut [u8]) {
+fn clear(scratch: &mut [u8])
+    ensures { λ _. ⌜ Blank (now (scratch .exit)) ⌝ }
+{
     let mut i = 0;
     while i < scratch.len() {
         scratch[i] = 252;
@@ -33,18 +40,22 @@ fn clear(scratch: &mut [u8]) {
 }
 
 // Triple k becomes the first of a thread.
-fn head(scratch: &mut [u8], first: usize, next: usize, k: usize) {
+fn head(scratch: &mut [u8], first: usize, next: usize, k: usize)
+    requires { ⌜ k < values ⌝ }
+    ensures { λ _. ⌜ Headed first next k (cells (now (scratch .entry))) (cells (now (scratch .exit))) ⌝ }
+{
     let was = cell(scratch, first);
-    put_cell(scratch, next, was);
-    put_cell(scratch, first, k);
+    put_new(scratch, next, was);
+    put_new(scratch, first, k);
 }
 
 // Triple k becomes the first of its threads.
 fn thread_one(site: &[u8], k: usize, scratch: &mut [u8])
     requires { ⌜ Has (now site) k ⌝ }
+    ensures { λ _. ⌜ ThreadedOne (now (site .entry)) k (now (scratch .entry)) (now (scratch .exit)) ⌝ }
 {
     let x = triple_at(site, k);
-    put_cell(scratch, SUBJECT + x.subject % TERMS, k);
+    put_new(scratch, SUBJECT + x.subject % TERMS, k);
     head(
         scratch,
         PREDICATE + x.predicate % TERMS,
@@ -57,6 +68,7 @@ fn thread_one(site: &[u8], k: usize, scratch: &mut [u8])
 // The threads of a site: from the last triple to the first, so that each goes up.
 pub fn thread(site: &[u8], triples: usize, scratch: &mut [u8])
     requires { ⌜ Accepted (now site) triples ⌝ }
+    ensures { λ _. ⌜ (length (now (scratch .entry)) ≡ records * terms → Threads (now (site .entry)) triples (now (scratch .exit))) ⌝ }
 {
     clear(scratch);
     let mut k = triples;
@@ -67,7 +79,9 @@ pub fn thread(site: &[u8], triples: usize, scratch: &mut [u8])
 }
 
 // The first triple by which an axis leads from t, and the first by which it leads to t.
-pub fn first_from(scratch: &[u8], axis: usize, t: usize) -> usize {
+pub fn first_from(scratch: &[u8], axis: usize, t: usize) -> usize
+    ensures { λ j. ⌜ FirstFrom (now (scratch .entry)) axis t j ⌝ }
+{
     match axis {
         1 => cell(scratch, SUBJECT + t % TERMS),
         3 => cell(scratch, SUBJECT + t % TERMS),
@@ -103,7 +117,7 @@ pub fn next_from(
     k: usize,
 ) -> usize
     requires { ⌜ Accepted (now site) triples × (k < triples) ⌝ }
-    ensures { λ j. ⌜ k < j ⌝ }
+    ensures { λ j. ⌜ NextFrom (now (site .entry)) triples (now (scratch .entry)) axis t k j ⌝ }
 {
     match axis {
         1 => same_subject(site, triples, t, k),
@@ -117,7 +131,7 @@ pub fn next_from(
 // A thread goes up: a next triple that does not stand later ends it.
 fn later(triples: usize, next: usize, k: usize) -> usize
     requires { ⌜ k < triples ⌝ }
-    ensures { λ j. ⌜ k < j ⌝ }
+    ensures { λ j. ⌜ (k < j) × ((k < next) → (j ≡ next)) ⌝ }
 {
     if next <= k {
         return triples;
@@ -146,14 +160,5 @@ pub fn witness(scratch: &[u8], t: usize) -> usize {
     if k < CELL - 1 {
         return k;
     }
-    cell(scratch, OBJECT + t % TERMS)
-}
-
-// The first triple that has the term as subject, and the first that has it as object.
-pub fn first_subject(scratch: &[u8], t: usize) -> usize {
-    cell(scratch, SUBJECT + t % TERMS)
-}
-
-pub fn first_object(scratch: &[u8], t: usize) -> usize {
     cell(scratch, OBJECT + t % TERMS)
 }

@@ -1,37 +1,27 @@
 -- The walk up the links from a record whose expression is done, as `follow` takes it: what comes next is opened on the way.
 -- It ends at the whole rule or a test, where nothing comes next, or at the first of a sequence.
-use Prim.Native.Nat.{ℕ, _-_, _<_, _≤_}
+use Prim.Native.Nat.{ℕ, _-_, _<_}
 use mathlib.Core.Path.{_≡_, refl}
-use mathlib.Core.Logic.{_≢_, _⊎_, inl, inr, ⊎-elim}
+use mathlib.Core.Logic.{_⊎_, inl, inr, ⊎-elim}
 use mathlib.Core.Bool.{Bool}
 use mathlib.Core.List.{List}
 use native.Mathlib.Omega.{arith}
-use native.Mathlib.Decide.{ℕ-discrete}
 use lib.ListN.{getD}
 use Rattle.meaning.specs.Limits.{records}
 use Rattle.fewest.specs.Frame.{Frame, as-first, as-round}
-use Rattle.fewest.specs.Next.{Next, on, out, again, ending}
+use Rattle.fewest.specs.Next.{Next, on, again, ending}
 use Rattle.fewest.specs.Sweep.{sum, Swept}
 use Rattle.fewest.proofs.Sweeps.{swept-none, swept-then, swept-weaken, swept-lift}
-use Rattle.path.specs.Flags.{Open, Opens, Opening, Again, linked}
-use Rattle.path.proofs.Opening.{opens-chain, opens-more, opening-none, opening-as}
-
--- The round of a star.
-pub again-round : {stands r : ℕ} {X Y : List ℕ} {was now : Bool} → stands ≡ as-round → Opening (λ c. c ≡ r) X Y was now →
-    Opening (Again stands r) X Y was now
-again-round e p = opening-as (λ b q. (e, q)) (λ b q. q .1) p
-
-pub again-other : {stands r : ℕ} {X : List ℕ} {was : Bool} → stands ≢ as-round → Opening (Again stands r) X X was was
-again-other n = opening-none (λ b q. absurd (n (q .0)))
+use Rattle.path.specs.Flags.{Open, Opens, Opening, linked}
+use Rattle.path.proofs.Opening.{opens-chain, opens-more, opening-none}
 
 -- what comes next, by the record's role
 next-cases : {F : Frame} {r b : ℕ} → Next F r b →
     ((getD (F .role) r 0 ≡ as-first) × (b ≡ getD (F .up) r 0 - 1)) ⊎
-    ((as-first < getD (F .role) r 0) × (Again (getD (F .role) r 0) r b ⊎ Next F (getD (F .up) r 0) b))
+    ((getD (F .role) r 0 ≡ as-round) × ((b ≡ getD (F .up) r 0 - 1) ⊎ Next F (getD (F .up) r 0) b))
 next-cases (on e) = inl (e, refl)
-next-cases (out e n) = inr (omega arith, inr n)
-next-cases (again e) = inr (omega arith, inl (e, refl))
-next-cases (ending e n) = inr (omega arith, inr n)
+next-cases (again e) = inr (e, inl refl)
+next-cases (ending e n) = inr (e, inr n)
 
 -- The walk up the links from record r is at a record: what comes next there comes next after r, and what comes next after r
 -- is open or comes next there.
@@ -66,17 +56,11 @@ module _ {up role : List ℕ} {r : ℕ} where
         Opening (Next (linked up role) r) X Z was then
     climb-first e p = ended p (λ b q. rw q (on e)) (λ b n. ⊎-elim (λ q. q .1) (λ q. let l = q .0 in absurd (omega arith)) (next-cases n))
 
-    -- One record up.
-    pub climb-up : {Z : List ℕ} {then : Bool} → getD up at 0 < records → as-first < getD role at 0 → getD role at 0 ≤ as-round →
-        Opening (Again (getD role at 0) at) Y Z now then → Climbing up role r X Z was then (getD up at 0)
-    climb-up h l k p = record {
+    -- One star up: its operand may run again.
+    pub climb-up : {Z : List ℕ} {then : Bool} → getD up at 0 < records → getD role at 0 ≡ as-round →
+        Opening (λ b. b ≡ getD up at 0 - 1) Y Z now then → Climbing up role r X Z was then (getD up at 0)
+    climb-up h e p = record {
       inside = h;
-      onward = λ b n. climb .onward b (above b n);
-      swept = climbs p (λ b q. rw (q .1) (again (q .0))) (λ b n. ⊎-elim (λ q. let e = q .0 in absurd (omega arith)) (λ q. q .1) (next-cases n));
+      onward = λ b n. climb .onward b (ending e n);
+      swept = climbs p (λ b q. rw q (again e)) (λ b n. ⊎-elim (λ q. let f = q .0 in absurd (omega arith)) (λ q. q .1) (next-cases n));
     }
-      where
-        above : (b : ℕ) → Next (linked up role) (getD up at 0) b → Next (linked up role) at b
-        above b n = elim (ℕ-discrete (getD role at 0) as-round) [
-          | yes e ↦ ending e n
-          | no e ↦ out {r = at} (omega arith) n
-        ]

@@ -1,8 +1,8 @@
 -- Which records the walk may enter where it stands, told by the arrays, is where the free moves of its state lead.
 -- A stand is the beginning of the rule, or a record whose expression is finished.
-use Prim.Native.Nat.{ℕ, zero, suc, _+_, _-_, _<_}
-use mathlib.Core.Path.{_≡_, refl, sym, ap, subst, subst₂, _∙_}
-use mathlib.Core.Logic.{_⊎_, inl, inr, ⊎-elim}
+use Prim.Native.Nat.{ℕ, _+_, _-_, _<_}
+use mathlib.Core.Path.{_≡_, refl, sym, ap, subst, _∙_}
+use mathlib.Core.Logic.{⊎-elim}
 use mathlib.Core.List.{List, List·Memᴰ, List·Memᴰ·head, List·Memᴰ·tail}
 use native.Mathlib.Omega.{arith}
 use lib.ListN.{length, getD}
@@ -14,10 +14,11 @@ use Rattle.meaning.proofs.Offers.{Opens, here, through, opens-rule}
 use Rattle.meaning.proofs.Names.{last-number}
 use Rattle.meaning.proofs.Postfix.{own, own-record, expression-long}
 use Rattle.fewest.specs.declared.links.Links.{Links}
-use Rattle.fewest.specs.Frame.{as-last, roleOf, upOf, Linked, Frame}
-use Rattle.fewest.specs.Next.{Next, on, out, again, ending}
+use Rattle.fewest.specs.Frame.{upOf, Linked, Frame}
+use Rattle.fewest.specs.Next.{Next, on, again, ending}
 use Rattle.fewest.specs.Offer.{Work, stepping, proving, copying, resting}
 use Rattle.fewest.proofs.Roles.{along, operand-before}
+use Rattle.fewest.proofs.Nexts.{role-next, next-as}
 use Rattle.fewest.proofs.Works.{works, record-works}
 use Rattle.fewest.proofs.Bridge.{node-record}
 use Rattle.path.specs.declared.Stand.{Stand}
@@ -41,22 +42,6 @@ stands-record x (at-end {e} {K} p q) = omega (arith, node-record x e K p)
 -- the whole rule is named by the last record of all
 rule-last : {rs : List Rec} {rule : Expr} → Expression rs rule → last rule + 1 ≡ length rs
 rule-last {rule = rule} x = omega (arith, last-number 0 rule (x .numbered), expression-long x)
-
--- what a record's role says of the record b that is entered next, where p is the record of its parent; the roles are
--- as-whole to as-round, in the order of their numbers
-abbrev Says : Frame → (r p b : ℕ) → ℕ → Type 0
-Says F r p b zero = ⊥
-Says F r p b (suc zero) = ⊥
-Says F r p b (suc (suc zero)) = p - 1 ≡ b
-Says F r p b (suc (suc (suc zero))) = Next F p b
-Says F r p b (suc (suc (suc (suc zero)))) = (r ≡ b) ⊎ Next F p b
-Says F r p b (suc (suc (suc (suc (suc k))))) = ⊥
-
-next-says : {F : Frame} {r b : ℕ} → Next F r b → Says F r (getD (F .up) r 0) b (getD (F .role) r 0)
-next-says (on q) = rw q refl
-next-says (out q n) = rw q n
-next-says (again q) = rw q (inl refl)
-next-says (ending q n) = rw q (inr n)
 
 -- free moves lead from y to where the expression of record b is entered
 abbrev pub OpensRecord : Site → State → ℕ → Type 0
@@ -104,26 +89,23 @@ Admits F rs first z (entered e K t) = Enters F rs first t z (last e)
 Admits F rs first z (finished e K t) = (b : ℕ) → Next F (last e) b → Enters F rs first t z b
 
 module _ {rs : List Rec} {rule : Expr} {L : Links} (x : Expression rs rule) (linked : Linked rule L) {s : Site} {g : Goal} where
-  -- the arrays say what the context does
-  role-says : (e : Expr) (K : Context) {b : ℕ} → plug e K ≡ rule → Next (along L s g) (last e) b →
-      Says (along L s g) (last e) (upOf K) b (roleOf K)
-  role-says e K {b} p n =
-      subst₂ (λ q k. Says (along L s g) (last e) q b k) (linked .ups e K p) (linked .roles e K p) (next-says n)
-
   -- What comes next once a subexpression is finished is entered from there by free moves.
   next-opens : (e : Expr) (K : Context) {t b : ℕ} → plug e K ≡ rule → Next (along L s g) (last e) b → OpensRecord s (finished e K t) b
-  next-opens e whole p n = absurd (role-says e whole p n)
-  next-opens e (test r a K) p n = absurd (role-says e (test r a K) p n)
+  next-opens e whole p n = absurd (role-next linked e whole p n)
+  next-opens e (test r a K) p n = absurd (role-next linked e (test r a K) p n)
   next-opens e (first-of r c K) p n =
       let q = operand-before (x .numbered) (sequence r e c) K p in
-      let k = role-says e (first-of r c K) p n in
-      (c, second-of r e K, through sequence-on here, sym q ∙ k)
-  next-opens e (second-of r a K) p n = opens-through sequence-out (next-opens (sequence r a e) K p (role-says e (second-of r a K) p n))
-  next-opens e (one-of r c K) p n = opens-through one-out (next-opens (choice r e c) K p (role-says e (one-of r c K) p n))
-  next-opens e (other-of r a K) p n = opens-through other-out (next-opens (choice r a e) K p (role-says e (other-of r a K) p n))
+      (c, second-of r e K, through sequence-on here, sym (role-next linked e (first-of r c K) p n ∙ q))
+  next-opens e (second-of r a K) p n =
+      opens-through sequence-out (next-opens (sequence r a e) K p (next-as linked e (sequence r a e) (second-of r a K) K p p refl refl n))
+  next-opens e (one-of r c K) p n =
+      opens-through one-out (next-opens (choice r e c) K p (next-as linked e (choice r e c) (one-of r c K) K p p refl refl n))
+  next-opens e (other-of r a K) p n =
+      opens-through other-out (next-opens (choice r a e) K p (next-as linked e (choice r a e) (other-of r a K) K p p refl refl n))
   next-opens e (round-of r K) p n =
-      ⊎-elim (λ k. (e, round-of r K, through round-again here, k)) (λ k. opens-through round-out (next-opens (star r e) K p k))
-      (role-says e (round-of r K) p n)
+      let q = operand-before (x .numbered) (star r e) K p in
+      ⊎-elim (λ k. (e, round-of r K, through round-again here, sym (k ∙ q))) (λ k. opens-through round-out (next-opens (star r e) K p k))
+      (role-next linked e (round-of r K) p n)
 
   -- a star at a vocabulary term is finished where it is entered
   star-opens : (e : Expr) (K : Context) {t b : ℕ} → plug e K ≡ rule → IsStar (own e) → Voc s t →
@@ -149,24 +131,30 @@ module _ {rs : List Rec} {rule : Expr} {L : Links} (x : Expression rs rule) (lin
       Enters (along L s g) rs (L .first) t z (last e) → Enters (along L s g) rs (L .first) t z b
   copy-enters {b = b} e K p m i = inward {b = b} i (node-record x e K p) (rw (record-works x linked e K p) m)
 
-  -- what comes next after the parent, with which a subexpression is finished, comes next after it
-  out-next : {c : ℕ} (e : Expr) (K : Context) → plug e K ≡ rule → roleOf K ≡ as-last → Next (along L s g) (upOf K) c → Next (along L s g) (last e) c
-  out-next {c} e K p q n = out {b = c} (linked .roles e K p ∙ q) (rw (linked .ups e K p) n)
+  -- what comes next is the record before that below which a subexpression has its role
+  before-next : {b : ℕ} (e : Expr) (K : Context) → plug e K ≡ rule → upOf K - 1 ≡ b →
+      Next (along L s g) (last e) (getD (L .up) (last e) 0 - 1) → Next (along L s g) (last e) b
+  before-next e K p q = subst (λ c. Next (along L s g) (last e) c) (ap (λ c. c - 1) (linked .ups e K p) ∙ q)
 
   -- a free move leads to what is admitted
   free-admits : (z : Stand) {v w : State} → Free s v w → rule-of v ≡ rule → Admits (along L s g) rs (L .first) z v → Admits (along L s g) rs (L .first) z w
   free-admits z (sequence-in {r} {a} {b} {K}) p i = copy-enters (sequence r a b) K p (List·Memᴰ·head refl) i
   free-admits z (sequence-on {r} {a} {b} {K}) p f =
-      let q = ap (λ c. c - 1) (linked .ups a (first-of r b K) p) ∙ operand-before (x .numbered) (sequence r a b) K p in
-      f (last b) (subst (λ c. Next (along L s g) (last a) c) q (on (linked .roles a (first-of r b K) p)))
-  free-admits z (sequence-out {r} {a} {b} {K}) p f = λ c n. f c (out-next b (second-of r a K) p refl n)
+      let q = operand-before (x .numbered) (sequence r a b) K p in
+      f (last b) (before-next a (first-of r b K) p q (on (linked .roles a (first-of r b K) p)))
+  free-admits z (sequence-out {r} {a} {b} {K}) p f =
+      λ c n. f c (next-as linked (sequence r a b) b K (second-of r a K) p p refl refl n)
   free-admits z (one-in {r} {a} {b} {K}) p i = copy-enters (choice r a b) K p (List·Memᴰ·head refl) i
-  free-admits z (one-out {r} {a} {b} {K}) p f = λ c n. f c (out-next a (one-of r b K) p refl n)
+  free-admits z (one-out {r} {a} {b} {K}) p f =
+      λ c n. f c (next-as linked (choice r a b) a K (one-of r b K) p p refl refl n)
   free-admits z (other-in {r} {a} {b} {K}) p i = copy-enters (choice r a b) K p (List·Memᴰ·tail (List·Memᴰ·head refl)) i
-  free-admits z (other-out {r} {a} {b} {K}) p f = λ c n. f c (out-next b (other-of r a K) p refl n)
+  free-admits z (other-out {r} {a} {b} {K}) p f =
+      λ c n. f c (next-as linked (choice r a b) b K (other-of r a K) p p refl refl n)
   free-admits z (round-in {r} {a} {K}) p i = copy-enters (star r a) K p (List·Memᴰ·head refl) i
   free-admits z (round-empty {r} {a} {K} v) p i = λ c n. past i (own-record x (star r a) K p) (node-record x (star r a) K p) v n
-  free-admits z (round-again {r} {a} {K}) p f = f (last a) (again (linked .roles a (round-of r K) p))
+  free-admits z (round-again {r} {a} {K}) p f =
+      let q = operand-before (x .numbered) (star r a) K p in
+      f (last a) (before-next a (round-of r K) p q (again (linked .roles a (round-of r K) p)))
   free-admits z (round-out {r} {a} {K}) p f = λ c n. f c (ending {b = c} (linked .roles a (round-of r K) p) (rw (linked .ups a (round-of r K) p) n))
 
   opens-admits : (z : Stand) {v : State} {e : Expr} {K : Context} → Opens s v e K → rule-of v ≡ rule → Admits (along L s g) rs (L .first) z v →

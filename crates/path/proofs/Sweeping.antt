@@ -12,7 +12,7 @@ use Rattle.meaning.specs.Site.{Site, Voc}
 use Rattle.meaning.specs.Expression.{Rec, plain, testing, joining, choosing, starring}
 use Rattle.meaning.specs.Fewest.{Goal}
 use Rattle.fewest.specs.Frame.{frame}
-use Rattle.fewest.specs.Next.{Next, on, out, again, ending}
+use Rattle.fewest.specs.Next.{Next, on, again, ending}
 use Rattle.fewest.specs.Offer.{copying, worksOf}
 use Rattle.fewest.specs.Sweep.{sum, Swept}
 use Rattle.fewest.proofs.Sweeps.{Chain, swept-none, swept-then, swept-weaken, swept-lift}
@@ -26,7 +26,6 @@ use Rattle.path.proofs.Telling.{told, tells}
 -- the links alone tell what comes next
 relinked : {s z : Site} {g h : Goal} {up role : List ℕ} {r b : ℕ} → Next (frame s up role g) r b → Next (frame z up role h) r b
 relinked (on e) = on e
-relinked (out e n) = out e (relinked n)
 relinked (again e) = again e
 relinked (ending e n) = ending e (relinked n)
 

@@ -10,7 +10,7 @@ use Rattle.meaning.specs.Limits.{records}
 use Rattle.meaning.specs.Site.{Site, Voc}
 use Rattle.meaning.specs.Expression.{Rec, joining, choosing, starring}
 use Rattle.meaning.specs.Fewest.{Goal, anywhere}
-use Rattle.fewest.specs.Frame.{Frame, frame, as-round}
+use Rattle.fewest.specs.Frame.{Frame, frame}
 use Rattle.fewest.specs.Next.{Next}
 use Rattle.fewest.specs.Sweep.{sum, Swept}
 use Rattle.fewest.specs.Work.{Ready}
@@ -41,10 +41,6 @@ pub record Opens (P : ℕ → Type 0) (X Y : List ℕ) : Type 0 where
 -- all that P allows is opened
 abbrev pub Opening : (ℕ → Type 0) → List ℕ → List ℕ → Bool → Bool → Type 0
 Opening P X Y was now = Swept sum (Opens P) (λ Z. (b : ℕ) → P b → Open Z b) X Y was now
-
--- the round of a star may run again
-abbrev pub Again : ℕ → ℕ → ℕ → Type 0
-Again stands r b = (stands ≡ as-round) × (b ≡ r)
 
 -- what comes next is told by the links alone: neither the site nor the goal has a part in it
 abbrev pub linked : List ℕ → List ℕ → Frame

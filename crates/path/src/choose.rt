@@ -5,15 +5,17 @@ use fewest::Goal;
 use fewest::left::left;
 use fewest::look::Moved;
 use fewest::look::allows;
-use fewest::look::by_axis;
+use fewest::look::move_at;
+use fewest::look::parts_of;
+use fewest::threads::first_from;
+use fewest::threads::next_from;
 use records::Label;
 use records::NONE;
 use records::RECORDS;
 use records::Record;
 use records::Step;
 use records::find::from_subject;
-use records::rule::record_at;
-use records::site::triple_at;
+use records::rule::record_of;
 ghost use Prim.Native.Nat.{_<_, _≤_};
 ghost use mathlib.Core.Logic.{_≢_};
 ghost use Rattle.meaning.specs.Limits.{terms, records};
@@ -25,6 +27,7 @@ ghost use Rattle.fewest.specs.Pairs.{pairs};
 ghost use Rattle.fewest.specs.Frame.{Climbs, frame};
 ghost use Rattle.fewest.specs.Table.{Full};
 ghost use Rattle.fewest.specs.Work.{goalOf, Tests, Ready};
+ghost use Rattle.fewest.specs.Threads.{Threads, OffSubject};
 ghost use Rattle.path.specs.Tells.{Tells};
 ghost use Rattle.path.specs.Offers.{Suited, MayStay, AtSubject, SmallestBy, SmallestOf, SmallestOpen};
 
@@ -95,9 +98,10 @@ fn by_self<'a>(
     Pick::Nothing
 }
 
-// The first triple by which record r can be taken from t.
-fn by_triple<'a>(
+// The first triple by which record r can be taken from t, of those that the axis starts at t: they are threaded.
+fn by_thread<'a>(
     site: &[u8],
+    scratch: &[u8],
     triples: usize,
     up: &'a [u8; RECORDS],
     role: &'a [u8; RECORDS],
@@ -109,17 +113,18 @@ fn by_triple<'a>(
     t: usize,
     d: usize,
 ) -> Pick
-    requires { ⌜ Accepted (now site) triples × Full (now numbers) × Climbs records (now up) (now role) × (r < records) × Tests label r × (axis ≢ 0) × (axis ≤ lastAxis) ⌝ }
+    requires { ⌜ Accepted (now site) triples × Threads (now site) triples (now scratch) × Full (now numbers) × Climbs records (now up) (now role) × (r < records) × Tests label r × OffSubject axis × (t < terms) ⌝ }
     ensures { λ p. ⌜ SmallestBy (frame (siteOf (now (site .entry)) triples) (now (up .entry)) (now (role .entry)) (goalOf goal)) (pairs (now (numbers .entry))) (axisNumbered axis) label t d r p ⌝ }
 {
-    let mut k = 0;
+    let parts = parts_of(axis);
+    let mut k = first_from(scratch, axis, t);
     while k < triples {
-        let m = by_axis(axis, triple_at(site, k));
+        let m = move_at(site, k, parts);
         let to = m.to;
         if suits(up, role, goal, numbers, label, r, m, t, d) {
             return Pick::Step(Taken { by: r, over: k, to });
         }
-        k += 1;
+        k = next_from(site, triples, scratch, axis, t, k);
     }
     Pick::Nothing
 }
@@ -141,13 +146,13 @@ fn by_subject<'a>(
     requires { ⌜ Accepted (now site) triples × Full (now numbers) × Climbs records (now up) (now role) × (r < records) × Tests label r × (axis ≢ 0) × (axis ≤ lastAxis) × AtSubject (axisNumbered axis) ⌝ }
     ensures { λ p. ⌜ SmallestBy (frame (siteOf (now (site .entry)) triples) (now (up .entry)) (now (role .entry)) (goalOf goal)) (pairs (now (numbers .entry))) (axisNumbered axis) label t d r p ⌝ }
 {
+    let parts = parts_of(axis);
     let mut k = from_subject(site, triples, t);
     while k < triples {
-        let x = triple_at(site, k);
-        if x.subject != t {
+        let m = move_at(site, k, parts);
+        if m.from != t {
             return Pick::Nothing;
         }
-        let m = by_axis(axis, x);
         let to = m.to;
         if suits(up, role, goal, numbers, label, r, m, t, d) {
             return Pick::Step(Taken { by: r, over: k, to });
@@ -160,6 +165,7 @@ fn by_subject<'a>(
 // The smallest step of record r, which is this step.
 fn by_step<'a>(
     site: &[u8],
+    scratch: &[u8],
     triples: usize,
     up: &'a [u8; RECORDS],
     role: &'a [u8; RECORDS],
@@ -171,7 +177,7 @@ fn by_step<'a>(
     t: usize,
     d: usize,
 ) -> Pick
-    requires { ⌜ Accepted (now site) triples × Full (now numbers) × Climbs records (now up) (now role) × (r < records) × Tests (step .label) r × (step .axis ≤ lastAxis) × (t < terms) × Tells (Voc (siteOf (now site) triples) t) word ⌝ }
+    requires { ⌜ Accepted (now site) triples × Threads (now site) triples (now scratch) × Full (now numbers) × Climbs records (now up) (now role) × (r < records) × Tests (step .label) r × (step .axis ≤ lastAxis) × (t < terms) × Tells (Voc (siteOf (now site) triples) t) word ⌝ }
     ensures { λ p. ⌜ SmallestBy (frame (siteOf (now (site .entry)) triples) (now (up .entry)) (now (role .entry)) (goalOf goal)) (pairs (now (numbers .entry))) (axisNumbered (step .axis)) (step .label) t d r p ⌝ }
 {
     let axis = step.axis;
@@ -185,15 +191,29 @@ fn by_step<'a>(
     if axis == 3 {
         return by_subject(site, triples, up, role, goal, numbers, axis, label, r, t, d);
     }
-    by_triple(site, triples, up, role, goal, numbers, axis, label, r, t, d)
+    by_thread(
+        site,
+        scratch,
+        triples,
+        up,
+        role,
+        goal,
+        numbers,
+        axis,
+        label,
+        r,
+        t,
+        d,
+    )
 }
 
 // The smallest step of record r, if it is open and a step.
 fn of_record<'a>(
     site: &[u8],
+    scratch: &[u8],
     triples: usize,
     rule: &[u8],
-    starts: &[usize; RECORDS],
+    starts: &[u8; RECORDS],
     count: usize,
     up: &'a [u8; RECORDS],
     role: &'a [u8; RECORDS],
@@ -206,14 +226,27 @@ fn of_record<'a>(
     t: usize,
     d: usize,
 ) -> Pick
-    requires { ⌜ Ready (now site) triples (now rule) (now starts) count (now up) (now role) (now first) × Full (now numbers) × (r < count) × (t < terms) × Tells (Voc (siteOf (now site) triples) t) word ⌝ }
+    requires { ⌜ Ready (now site) triples (now rule) (now starts) count (now up) (now role) (now first) × Threads (now site) triples (now scratch) × Full (now numbers) × (r < count) × (t < terms) × Tells (Voc (siteOf (now site) triples) t) word ⌝ }
     ensures { λ p. ⌜ SmallestOf (frame (siteOf (now (site .entry)) triples) (now (up .entry)) (now (role .entry)) (goalOf goal)) (pairs (now (numbers .entry))) (recordsOf (now (rule .entry))) (now (shut .entry)) t d r p ⌝ }
 {
     if shut[r] != 0 {
         return Pick::Nothing;
     }
-    match record_at(rule, starts[r]) {
-        Record::Step(step) => by_step(site, triples, up, role, goal, numbers, step, word, r, t, d),
+    match record_of(rule, starts, r) {
+        Record::Step(step) => by_step(
+            site,
+            scratch,
+            triples,
+            up,
+            role,
+            goal,
+            numbers,
+            step,
+            word,
+            r,
+            t,
+            d,
+        ),
         Record::Sequence => Pick::Nothing,
         Record::Choice => Pick::Nothing,
         Record::Star => Pick::Nothing,
@@ -223,9 +256,10 @@ fn of_record<'a>(
 // The smallest step of all open records.
 pub fn choose<'a>(
     site: &[u8],
+    scratch: &[u8],
     triples: usize,
     rule: &[u8],
-    starts: &[usize; RECORDS],
+    starts: &[u8; RECORDS],
     count: usize,
     up: &'a [u8; RECORDS],
     role: &'a [u8; RECORDS],
@@ -237,13 +271,14 @@ pub fn choose<'a>(
     t: usize,
     d: usize,
 ) -> Pick
-    requires { ⌜ Ready (now site) triples (now rule) (now starts) count (now up) (now role) (now first) × Full (now numbers) × (t < terms) × Tells (Voc (siteOf (now site) triples) t) word ⌝ }
+    requires { ⌜ Ready (now site) triples (now rule) (now starts) count (now up) (now role) (now first) × Threads (now site) triples (now scratch) × Full (now numbers) × (t < terms) × Tells (Voc (siteOf (now site) triples) t) word ⌝ }
     ensures { λ p. ⌜ SmallestOpen (frame (siteOf (now (site .entry)) triples) (now (up .entry)) (now (role .entry)) (goalOf goal)) (pairs (now (numbers .entry))) (recordsOf (now (rule .entry))) (now (shut .entry)) t d p ⌝ }
 {
     let mut r = 0;
     while r < count {
         let found = of_record(
             site,
+            scratch,
             triples,
             rule,
             starts,

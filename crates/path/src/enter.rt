@@ -2,12 +2,11 @@
 // A record is only ever opened for a reason, and sweeps go on until one changes nothing: then none is missing.
 use crate::Stand;
 use fewest::links::AS_FIRST;
-use fewest::links::AS_ROUND;
 use fewest::links::AS_TEST;
 use fewest::links::AS_WHOLE;
 use records::RECORDS;
 use records::Record;
-use records::rule::record_at;
+use records::rule::record_of;
 ghost use Prim.Native.Nat.{_<_, _≤_};
 ghost use mathlib.Core.Path.{_≡_};
 ghost use mathlib.Core.Bool.{false};
@@ -16,7 +15,7 @@ ghost use Rattle.records.specs.Rules.{recOf, recordsOf};
 ghost use Rattle.fewest.specs.Frame.{Climbs};
 ghost use Rattle.fewest.specs.Next.{Next};
 ghost use Rattle.fewest.specs.Work.{Sits};
-ghost use Rattle.path.specs.Flags.{Placed, RuleReady, Opening, Again, linked, Begins, LeadsBy, Led, SweptOpen, Entered};
+ghost use Rattle.path.specs.Flags.{Placed, RuleReady, Opening, linked, Begins, LeadsBy, Led, SweptOpen, Entered};
 
 // Record b is open. True if it was not, or if anything was changed before.
 fn mark(shut: &mut [u8; RECORDS], b: usize, was: bool) -> bool
@@ -30,18 +29,8 @@ fn mark(shut: &mut [u8; RECORDS], b: usize, was: bool) -> bool
     true
 }
 
-// A star's operand may run again.
-fn again(shut: &mut [u8; RECORDS], stands: u8, r: usize, was: bool) -> bool
-    requires { ⌜ r < records ⌝ }
-    ensures { λ changed. ⌜ Opening (Again stands r) (now (shut .entry)) (now (shut .exit)) was changed ⌝ }
-{
-    if stands == AS_ROUND {
-        return mark(shut, r, was);
-    }
-    was
-}
-
-// Once record r's expression is done, what comes next is open.
+// Once record r's expression is done, what comes next is open: the second of a sequence, or a star's operand once more, is the
+// record before it.
 fn follow<'a>(
     up: &'a [u8; RECORDS],
     role: &'a [u8; RECORDS],
@@ -63,10 +52,10 @@ fn follow<'a>(
             return changed;
         }
         let above = up[at] as usize;
+        changed = mark(shut, above - 1, changed);
         if stands == AS_FIRST {
-            return mark(shut, above - 1, changed);
+            return changed;
         }
-        changed = again(shut, stands, at, changed);
         at = above;
     }
 }
@@ -128,7 +117,7 @@ fn inward<'a>(
 // What record r leads to, if it is open.
 fn lead<'a>(
     rule: &[u8],
-    starts: &[usize; RECORDS],
+    starts: &[u8; RECORDS],
     count: usize,
     up: &'a [u8; RECORDS],
     role: &'a [u8; RECORDS],
@@ -145,7 +134,7 @@ fn lead<'a>(
         return was;
     }
     inward(
-        record_at(rule, starts[r]),
+        record_of(rule, starts, r),
         first[r] as usize,
         up,
         role,
@@ -159,7 +148,7 @@ fn lead<'a>(
 // One sweep. True if it changed anything. Operands stand before what they are of, so it goes down.
 fn sweep<'a>(
     rule: &[u8],
-    starts: &[usize; RECORDS],
+    starts: &[u8; RECORDS],
     count: usize,
     up: &'a [u8; RECORDS],
     role: &'a [u8; RECORDS],
@@ -183,7 +172,7 @@ fn sweep<'a>(
 // All records that can be entered, none being open before.
 pub fn enter<'a>(
     rule: &[u8],
-    starts: &[usize; RECORDS],
+    starts: &[u8; RECORDS],
     count: usize,
     up: &'a [u8; RECORDS],
     role: &'a [u8; RECORDS],

@@ -17,6 +17,7 @@ ghost use Rattle.fewest.specs.Pairs.{pairs};
 ghost use Rattle.fewest.specs.Frame.{frame};
 ghost use Rattle.fewest.specs.Table.{Full};
 ghost use Rattle.fewest.specs.Work.{goalOf, Ready};
+ghost use Rattle.fewest.specs.Threads.{Threads};
 ghost use Rattle.path.specs.Pick.{Picked};
 ghost use Rattle.path.specs.Flags.{Placed};
 
@@ -39,12 +40,13 @@ pub enum Pick {
     Nothing,
 }
 
-// The next step of a walk that stands so at term t, with d steps left after it.
+// The next step of a walk that stands so at term t, with d steps left after it. The site's threads are in scratch.
 pub fn next_step<'a>(
     site: &[u8],
+    scratch: &[u8],
     triples: usize,
     rule: &[u8],
-    starts: &[usize; RECORDS],
+    starts: &[u8; RECORDS],
     count: usize,
     up: &'a [u8; RECORDS],
     role: &'a [u8; RECORDS],
@@ -55,14 +57,15 @@ pub fn next_step<'a>(
     t: usize,
     d: usize,
 ) -> Pick
-    requires { ⌜ Ready (now site) triples (now rule) (now starts) count (now up) (now role) (now first) × Full (now numbers) × (t < terms) × Placed stand ⌝ }
+    requires { ⌜ Ready (now site) triples (now rule) (now starts) count (now up) (now role) (now first) × Threads (now site) triples (now scratch) × Full (now numbers) × (t < terms) × Placed stand ⌝ }
     ensures { λ r. ⌜ Picked (frame (siteOf (now (site .entry)) triples) (now (up .entry)) (now (role .entry)) (goalOf goal)) (pairs (now (numbers .entry))) (recordsOf (now (rule .entry))) (now (first .entry)) stand t d r ⌝ }
 {
-    let here = word(site, triples, t);
+    let here = word(site, scratch, triples, t);
     let mut shut = [1; RECORDS];
     enter(rule, starts, count, up, role, first, here, stand, &mut shut);
     choose(
         site,
+        scratch,
         triples,
         rule,
         starts,

@@ -1,15 +1,18 @@
 -- The first record of an expression: there is only one, and the record number falls at each operand on the way to it.
 -- It is the first record that the meaning gives to the subexpression.
 use Prim.Native.Nat.{ℕ, _+_, _-_, _≤_, _<_}
-use mathlib.Core.Path.{_≡_, refl, _∙_, ap}
+use mathlib.Core.Path.{_≡_, refl, sym, _∙_, ap}
 use mathlib.Core.Logic.{_≢_}
 use mathlib.Core.List.{List}
 use native.Mathlib.Omega.{arith}
-use lib.ListN.{length}
+use lib.ListN.{length, getD}
 use Rattle.meaning.specs.Expression.{Rec, Expr, step, tested, sequence, choice, star, last, first, size, Expression, operands, Context, test, first-of, second-of, one-of, other-of, round-of, plug}
 use Rattle.meaning.proofs.Names.{operand-last, join-first, numbered-node, node-below}
 use Rattle.meaning.proofs.Postfix.{own as own-of, own-record, expression-long, node-at}
-use Rattle.records.specs.First.{First, own, of-one, of-two, taken, Ends}
+use Rattle.records.specs.declared.Record.{Record}
+use Rattle.records.specs.Rules.{recOf, recordAt, startsOf, recordsOf, Front}
+use Rattle.records.specs.First.{First, own, of-one, of-two, taken, Ends, Inside}
+use Rattle.records.proofs.Starts.{front-record}
 
 -- The record stands in the rule,
 pub first-below : {rs : List Rec} {r f : ℕ} → First rs r f → r < length rs
@@ -22,6 +25,11 @@ pub first-before : {rs : List Rec} {r f : ℕ} → First rs r f → f ≤ r
 first-before (own h t) = omega arith
 first-before (of-one h t some p) = let k = first-before p in omega arith
 first-before (of-two m h t some p more q) = let k = first-before p in let l = first-before q in omega arith
+
+-- How many expressions a record takes is told by the record that is read.
+pub taken-read : (s : List ℕ) {starts : List ℕ} {k n : ℕ} {r : Record} → Front (startsOf s) starts → k < length (recordsOf s) →
+    r ≡ recordAt s (getD starts k 0) → n ≡ operands (recOf r) → taken (recordsOf s) k ≡ n
+taken-read s {k = k} front h e m = ap operands (front-record s front k h) ∙ sym (m ∙ ap (λ (r : Record). operands (recOf r)) e)
 
 -- An expression has one first record.
 pub first-unique : {rs : List Rec} {r f g : ℕ} → First rs r f → First rs r g → f ≡ g
@@ -41,6 +49,20 @@ pub operand : {rs : List Rec} {r f : ℕ} → First rs r f → taken rs r ≢ 0 
 operand (own h t) other = absurd (other t)
 operand (of-one {f = f} h t some p) other = (some, (f, p))
 operand (of-two m h t some p more q) other = (some, (m, p))
+
+-- An expression stands inside itself,
+pub inside-none : {rs : List Rec} {r : ℕ} → Ends rs r → Inside rs r r
+inside-none e = record { before = omega arith; ends = e; same = λ f p. p }
+
+-- and so does the operand of one that takes one.
+pub inside-more : {rs : List Rec} {last r : ℕ} → Inside rs last r → taken rs r ≡ 1 → (0 < r) × Inside rs last (r - 1)
+inside-more {rs} {last} {r} x one =
+    let (f, p) = x .ends in
+    let before = x .before in
+    let (some, e) = operand p (λ z. omega (arith, z, one)) in (
+      some,
+      record { before = omega arith; ends = e; same = λ g q. x .same g (of-one (first-below p) one some q) },
+    )
 
 -- One that takes two has another, which ends just before that one begins.
 pub first-operand : {rs : List Rec} {r f m : ℕ} → First rs r f → taken rs r ≢ 0 → taken rs r ≢ 1 → First rs (r - 1) m →

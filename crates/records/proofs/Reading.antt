@@ -29,6 +29,24 @@ pub record Good (s : List ℕ) (at count height : ℕ) (r : Record) (on : ℕ) :
   pub term : termOf r < terms
   pub enough : operands (recOf r) ≤ height
 
+-- the longest record has this many bytes
+abbrev pub longest : ℕ
+longest = 4
+
+-- No record is longer.
+pub length-longest : (kind : ℕ) → lengthOf kind ≤ longest
+unfolding lengthOf
+length-longest kind = go (eqb kind 1) (eqb kind 2) (eqb kind 3) (eqb kind 4) (eqb kind 5) (eqb kind 6)
+  where
+    go : (a b c d e f : Bool) → cond a 2 (cond b 4 (cond c 2 (cond d 1 (cond e 1 (cond f 1 0))))) ≤ longest
+    go true b c d e f = omega arith
+    go false true c d e f = omega arith
+    go false false true d e f = omega arith
+    go false false false true e f = omega arith
+    go false false false false true f = omega arith
+    go false false false false false true = omega arith
+    go false false false false false false = omega arith
+
 -- where a test's answer is not the outcome, the test has failed
 passed : (t : Bool) {x y z : RuleRecord} → x ≢ z → cond t x y ≡ z → (t ≡ false) × (y ≡ z)
 passed true other e = absurd (other e)

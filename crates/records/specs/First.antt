@@ -1,6 +1,6 @@
 -- The first record of an expression, named by its last (document 01, "Records").
 -- It is found through the first operand's; a plain or named step is its own first.
-use Prim.Native.Nat.{ℕ, _-_, _<_}
+use Prim.Native.Nat.{ℕ, _-_, _≤_, _<_}
 use mathlib.Core.Path.{_≡_}
 use mathlib.Core.List.{List}
 use lib.ListN.{length, getD}
@@ -21,3 +21,9 @@ pub data First (rs : List Rec) : ℕ → ℕ → Type 0 where
 -- an expression ends with this record
 abbrev pub Ends : List Rec → ℕ → Type 0
 Ends rs r = (f : ℕ) × First rs r f
+
+-- the expression that ends with record r stands inside the one that ends with `last`, and has the same first record
+pub record Inside (rs : List Rec) (last r : ℕ) : Type 0 where
+  pub before : r ≤ last
+  pub ends : Ends rs r
+  pub same : (f : ℕ) → First rs r f → First rs last f

@@ -4,6 +4,7 @@ pub mod Bytes
 pub mod Sites
 pub mod Reader
 pub mod Find
+pub mod Words
 pub mod Rules
 pub mod First
 pub mod Queries

@@ -25,6 +25,20 @@ tripleKind = 10
 abbrev pub tripleWidth : ℕ
 tripleWidth = 7
 
+-- where its terms stand in a record, by their low bytes
+abbrev pub subjectPart : ℕ
+subjectPart = 2
+
+abbrev pub predicatePart : ℕ
+predicatePart = 4
+
+abbrev pub objectPart : ℕ
+objectPart = 6
+
+-- the term that stands at a part of triple number k
+unfoldable pub termAt : List ℕ → ℕ → ℕ → ℕ
+termAt s k part = getD s (k * tripleWidth + part) 0
+
 -- the triple of the record that begins at a place
 unfoldable pub tripleOf : List ℕ → ℕ → meant.Triple
 tripleOf s at =

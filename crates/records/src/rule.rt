@@ -9,13 +9,16 @@ use crate::Step;
 use crate::TERMS;
 use crate::bytes::BASE;
 use crate::bytes::byte_after;
+use crate::bytes::byte_at;
 ghost use mathlib.Core.Path.{_≡_};
 ghost use Prim.Native.Nat.{_+_, _<_};
+ghost use mathlib.Core.Logic.{_≢_};
 ghost use mathlib.Core.List.{[]};
 ghost use lib.ListN.{getD};
+ghost use Rattle.meaning.specs.Limits.{records};
 ghost use Rattle.meaning.specs.Expression.{operands};
 ghost use Rattle.records.specs.Rules.{recOf, lengthOf, recordAt, axisOf, termOf, refusal, judged, ruleRecordAt, startsOf, recordsOf, Front, CheckedRule};
-ghost use Rattle.records.specs.First.{First, Ends};
+ghost use Rattle.records.specs.First.{First, Ends, taken, Inside};
 
 const LAST_AXIS: usize = 6;
 
@@ -33,9 +36,10 @@ pub enum RuleAnswer {
 }
 
 // A checked rule: the answer, and the places of its records in front, 0 behind; all 0 where it is refused.
+// Records are so short that a place is a byte.
 pub struct RuleRead {
     pub answer: RuleAnswer,
-    pub starts: [usize; RECORDS],
+    pub starts: [u8; RECORDS],
 }
 
 // How many bytes a record of this kind has, its kind included; 0 where there is no such kind.
@@ -54,7 +58,7 @@ fn length_of(kind: usize) -> usize
 }
 
 // The record whose kind stands at this place of a rule that has been checked. Of any other place it is some record.
-pub fn record_at(rule: &[u8], at: usize) -> Record
+fn record_at(rule: &[u8], at: usize) -> Record
     ensures { λ r. ⌜ r ≡ recordAt (now (rule .entry)) at ⌝ }
 {
     let kind = byte_after(rule, at, 0);
@@ -76,6 +80,14 @@ pub fn record_at(rule: &[u8], at: usize) -> Record
         5 => Record::Choice,
         _ => Record::Star,
     }
+}
+
+// The record with this number, by the places of the rule's records.
+pub fn record_of(rule: &[u8], starts: &[u8; RECORDS], r: usize) -> Record
+    requires { ⌜ r < records ⌝ }
+    ensures { λ found. ⌜ found ≡ recordAt (now (rule .entry)) (getD (now (starts .entry)) r 0) ⌝ }
+{
+    record_at(rule, byte_at(starts, r))
 }
 
 // The axis of a step; 0 for other records.
@@ -208,7 +220,7 @@ pub fn check_rule(rule: &[u8]) -> RuleRead
         let RuleRecord::Record(record, next) = found else {
             return refused_rule(refusal_of(found));
         };
-        starts[count] = at;
+        starts[count] = at as u8;
         at = next;
         count += 1;
         height = height - operands_of(record) + 1;
@@ -225,19 +237,30 @@ pub fn check_rule(rule: &[u8]) -> RuleRead
     }
 }
 
-// The first record of the expression whose last record is `last`, found through its first operand's.
-pub fn first_record(rule: &[u8], starts: &[usize; RECORDS], last: usize) -> usize
+// The record that stands inside all those, from `last` down, which take one operand: it ends just before the least of them.
+fn inner_record(rule: &[u8], starts: &[u8; RECORDS], last: usize) -> usize
+    requires { ⌜ Front (startsOf (now rule)) (now starts) ⌝ }
+    requires { ⌜ Ends (recordsOf (now rule)) last ⌝ }
+    ensures { λ r. ⌜ Inside (recordsOf (now (rule .entry))) last r × (taken (recordsOf (now (rule .entry))) r ≢ 1) ⌝ }
+{
+    let mut r = last;
+    while operands_of(record_of(rule, starts, r)) == 1 {
+        r -= 1;
+    }
+    r
+}
+
+// The first record of the expression whose last record is `last`, found through its first operand's. Single operands are walked
+// down in a loop, so that the recursion goes as deep as joins stand in each other, and no deeper.
+pub fn first_record(rule: &[u8], starts: &[u8; RECORDS], last: usize) -> usize
     requires { ⌜ Front (startsOf (now rule)) (now starts) ⌝ }
     requires { ⌜ Ends (recordsOf (now rule)) last ⌝ }
     ensures { λ r. ⌜ First (recordsOf (now (rule .entry))) last r ⌝ }
 {
-    let taken = operands_of(record_at(rule, starts[last]));
-    if taken == 0 {
-        return last;
+    let inner = inner_record(rule, starts, last);
+    if operands_of(record_of(rule, starts, inner)) == 0 {
+        return inner;
     }
-    let first = first_record(rule, starts, last - 1);
-    if taken == 1 {
-        return first;
-    }
-    first_record(rule, starts, first - 1)
+    let second = first_record(rule, starts, inner - 1);
+    first_record(rule, starts, second - 1)
 }

@@ -1,14 +1,15 @@
 // Site records: one triple each; the reader that hands them out; and a whole site checked through it.
 // `site_record` decides what stands at a place. The reader only keeps the bytes and the place, and its functions are proved by hand.
 ghost use mathlib.Core.Path.{_≡_};
-ghost use Prim.Native.Nat.{_+_, _*_, _-_, _≤_};
+ghost use Prim.Native.Nat.{_+_, _*_, _-_, _<_, _≤_};
 ghost use lib.ListN.{length};
-ghost use Rattle.records.specs.Sites.{tripleWidth, tripleOf, inCode, allTerms, isAbove, inOrder, denial, siteRecordAt, finished, Checked};
+ghost use Rattle.records.specs.Sites.{tripleWidth, tripleOf, termAt, inCode, allTerms, isAbove, inOrder, denial, siteRecordAt, finished, Checked};
 ghost use Rattle.records.specs.Reader.{handed, standing, Hands};
 use crate::Reason;
 use crate::Refusal;
 use crate::TRIPLES;
 use crate::Triple;
+use crate::bytes::byte_at;
 use crate::bytes::is_term;
 use crate::bytes::number_at;
 
@@ -16,6 +17,13 @@ use crate::bytes::number_at;
 pub const TRIPLE_KIND: u8 = 10;
 
 pub const TRIPLE_WIDTH: usize = 7;
+
+// Where its terms stand in a record, by their low bytes: a term is less than the base, so its high byte is 0.
+pub const SUBJECT: usize = 2;
+
+pub const PREDICATE: usize = 4;
+
+pub const OBJECT: usize = 6;
 
 // What stands at a place of a site.
 pub enum SiteRecord {
@@ -51,6 +59,14 @@ pub fn triple_at(site: &[u8], k: usize) -> Triple
     ensures { λ r. ⌜ r ≡ inCode (tripleOf (now (site .entry)) (k * tripleWidth)) ⌝ }
 {
     triple_from(site, k * TRIPLE_WIDTH)
+}
+
+// The term that stands at a part of triple number k.
+pub fn term_at(site: &[u8], k: usize, part: usize) -> usize
+    requires { ⌜ ((k + 1) * tripleWidth ≤ length (now site)) × (part < tripleWidth) ⌝ }
+    ensures { λ r. ⌜ r ≡ termAt (now (site .entry)) k part ⌝ }
+{
+    byte_at(site, k * TRIPLE_WIDTH + part)
 }
 
 // Each of its numbers is a term.

@@ -12,38 +12,30 @@ use Rattle.asked.proofs.chase.ask_one.Tie as tie
 take-up-requires : tie.Need-take-up-requires
 take-up-requires c κs = let pre = c .before .before .before .before .before .before .pre in let few = pre .0 .few in (pre .2, omega arith, pre .5)
 
-mul-record-at : tie.Need-mul-record-at
-unfolding records
-mul-record-at c = let few = c .before .before .before .before .before .before .before .before .before .before .pre .0 .few in omega arith
-
-element-copy-out-record-at : tie.Need-element-copy-out-record-at
-unfolding records
-element-copy-out-record-at c = let few = c .before .before .before .before .before .before .before .before .before .before .pre .0 .few in omega arith
-
-record-at-requires : tie.Need-record-at-requires
-record-at-requires c κs = search needs
+record-of-requires : tie.Need-record-of-requires
+record-of-requires c κs = let few = c .before .before .before .before .before .before .before .before .before .before .pre .0 .few in omega arith
 
 element-copy-out-operand : tie.Need-element-copy-out-operand
 unfolding records
-element-copy-out-operand c = let few = c .before .before .before .before .before .before .before .before .before .before .before .before .pre .0 .few in omega arith
+element-copy-out-operand c = let few = c .before .before .before .before .before .before .before .before .before .before .before .pre .0 .few in omega arith
 
 cast-operand : tie.Need-cast-operand
 unfolding records
-cast-operand c = let small = c .before .before .before .before .before .before .before .before .before .before .before .before .before .pre .0 .firsts _ (c .before .before .before .before .before .before .before .before .before .before .before .before .before .pre .4) in omega arith
+cast-operand c = let small = c .before .before .before .before .before .before .before .before .before .before .before .before .pre .0 .firsts _ (c .before .before .before .before .before .before .before .before .before .before .before .before .pre .4) in omega arith
 
 ask-on-requires : tie.Need-ask-on-requires
 ask-on-requires c κs =
-    let pre = c .before .before .before .before .before .before .before .before .before .before .before .before .before .before .before .pre in
+    let pre = c .before .before .before .before .before .before .before .before .before .before .before .before .before .before .pre in
     let ready = pre .0 in
     let few = ready .few in (
       ready .good,
       pre .1,
       ready .climbs,
-      rw (c .before .before .before .before .before .before .before .before .take-up .ensures) (pre .2),
+      rw (c .before .before .before .before .before .before .before .take-up .ensures) (pre .2),
       pre .3,
       omega arith,
       pre .5,
-      rw (c .before .before .before .record-at .ensures) (ready .sits _ (pre .4)),
+      rw (c .before .before .before .record-of .ensures) (ready .sits _ (pre .4)),
       ready .firsts _ (pre .4),
     )
 
@@ -55,10 +47,10 @@ same-length-2 c = search needs
 
 returns : tie.Need-returns
 returns c =
-    let pre = c .before .before .before .before .before .before .before .before .before .before .before .before .before .before .before .before .before .before .before .before .pre in
+    let pre = c .before .before .before .before .before .before .before .before .before .before .before .before .before .before .before .before .before .before .before .pre in
     let ready = pre .0 in
-    λ g. record-chased (rw (← ready .counted) (pre .4)) (ap recOf (c .before .before .before .before .before .before .before .before .record-at .ensures) ∙ ready .reads _ (pre .4))
-    (rw (c .before .before .before .before .before .before .before .before .before .before .before .before .before .take-up .ensures) at (c .before .before .before .before .ask-on .ensures g))
+    λ g. record-chased (rw (← ready .counted) (pre .4)) (ap recOf (c .before .before .before .before .before .before .before .before .record-of .ensures) ∙ ready .reads _ (pre .4))
+    (rw (c .before .before .before .before .before .before .before .before .before .before .before .before .take-up .ensures) at (c .before .before .before .before .ask-on .ensures g))
 
 same-length-3 : tie.Need-same-length-3
 same-length-3 c = search needs
@@ -71,9 +63,7 @@ ask-one-spec =
     tie.close
     (tie.spec
     take-up-requires
-    mul-record-at
-    element-copy-out-record-at
-    record-at-requires
+    record-of-requires
     element-copy-out-operand
     cast-operand
     ask-on-requires

@@ -15,11 +15,14 @@ use Rattle.asked.proofs.chase.go_all.Statement.{statement}
 use Rattle.asked.proofs.chase.go_all.Tie as tie
 
 abbrev Inv-loop : tie.InvT-loop
-Inv-loop site triples step up role numbers asked₀ ends₀ r t was axis tail₀ k₀ asked ends tail k =
+Inv-loop site triples step up role numbers asked₀ ends₀ r t was axis parts tail₀ k₀ asked ends tail k =
     StepChased site triples step up role (pairs numbers) r (marks (lows asked₀) ends₀) (marks (lows asked) ends)
 
 abbrev μ-loop : tie.MeasureT-loop
-μ-loop site triples step up role numbers asked₀ ends₀ r t was axis tail₀ k₀ asked ends tail k = triples - k
+μ-loop site triples step up role numbers asked₀ ends₀ r t was axis parts tail₀ k₀ asked ends tail k = triples - k
+
+parts-of-requires : tie.Need-parts-of-requires Inv-loop μ-loop
+parts-of-requires c κs = search needs
 
 first-from-requires : tie.Need-first-from-requires Inv-loop μ-loop
 first-from-requires c κs = search needs
@@ -29,12 +32,16 @@ loop-holds c = λ g. stay
 
 go-requires : tie.Need-go-requires Inv-loop μ-loop
 go-requires c κs =
-    let p = c .before .before .before .before .before .before .before .before .before .before .pre in
-    let (whole, ends) = marking-fit (c .before .before .before .loop .inv anywhere) (p .3, p .4) in
-    (p .0, c .before .before .loop-test .taken, p .1, p .2, whole, ends, p .5, p .7, p .8, p .9)
+    let turn = c .before .before in
+    let after-parts-of = turn .before .before .before .before in
+    let p = after-parts-of .before .before .before .before .before .pre in
+    let (whole, ends) = marking-fit (turn .before .loop .inv anywhere) (p .3, p .4) in
+    (p .0, turn .loop-test .taken, p .1, p .2, whole, ends, p .5, p .7, p .8, p .9, after-parts-of .parts-of .ensures)
 
 next-from-requires : tie.Need-next-from-requires Inv-loop μ-loop
-next-from-requires c κs = (c .before .before .before .before .before .before .before .before .before .before .before .before .before .before .before .before .pre .0, c .before .before .before .before .before .before .before .before .loop-test .taken)
+next-from-requires c κs =
+    let turn = c .before .before .before .before .before .before .before .before in
+    (turn .before .before .before .before .before .before .before .before .before .pre .0, turn .loop-test .taken)
 
 loop-less : tie.Need-loop-less Inv-loop μ-loop
 loop-less c = let later = c .next-from .ensures in omega arith
@@ -57,6 +64,7 @@ go-all-spec =
     (tie.spec
     Inv-loop
     μ-loop
+    parts-of-requires
     first-from-requires
     loop-holds
     go-requires

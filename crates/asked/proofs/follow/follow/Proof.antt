@@ -69,12 +69,13 @@ unfolding records
 cast-above c = omega (arith, higher (c .before .before))
 
 sub-mark : tie.Need-sub-mark Inv-loop μ-loop
-sub-mark c = omega (arith, higher (c .before .before .before .before))
+sub-mark c = omega (arith, higher (c .before .before .before))
 
 mark-requires : tie.Need-mark-requires Inv-loop μ-loop
 mark-requires c κs =
-    let y = c .before .before .before .before .before .before in
-    (y .loop .inv .whole, omega (arith, higher (c .before .before .before .before)), y .before .before .before .pre .4)
+    let z = c .before .before .before in
+    let y = z .before .before in
+    (y .loop .inv .whole, omega (arith, higher z), y .before .before .before .pre .4)
 
 same-length-5 : tie.Need-same-length-5 Inv-loop μ-loop
 same-length-5 c = omega (arith, long (c .before .before .before .before .before .before .before .before .before))
@@ -86,13 +87,7 @@ returns-3 : tie.Need-returns-3 Inv-loop μ-loop
 returns-3 c =
     let z = c .before .before .before .before .before .before .before in
     let y = z .before .before in
-    climb-first (y .loop .inv) (c .before .before .before .before .if3 .taken) (omega (arith, higher z))
-    (y .before .before .before .pre .4) (c .before .before .mark .ensures)
-
-again-requires : tie.Need-again-requires Inv-loop μ-loop
-again-requires c κs =
-    let y = c .before .before .before .before .before .before in
-    (y .loop .inv .whole, y .loop .inv .inside, y .before .before .before .pre .4)
+    climb-first (y .loop .inv) (c .if3 .taken) (omega (arith, higher z)) (y .before .before .before .pre .4) (c .before .before .before .mark .ensures)
 
 loop-less : tie.Need-loop-less Inv-loop μ-loop
 loop-less c = omega (arith, higher (c .before .before .before .before .before .before .before))
@@ -103,7 +98,7 @@ loop-again c =
     let y = z .before .before in
     let x = y .before .before .before in
     climb-up (y .loop .inv) (x .pre .0) (x .pre .4) (z .if1 .left) (c .before .before .before .before .before .before .if2 .left)
-    (c .before .before .before .before .if3 .left) (c .before .before .again .ensures)
+    (c .if3 .left) (c .before .before .before .mark .ensures)
 
 pub follow-spec : {M : Type 1} → statement M
 follow-spec =
@@ -127,6 +122,5 @@ follow-spec =
     same-length-5
     same-length-6
     returns-3
-    again-requires
     loop-less
     loop-again)

@@ -7,22 +7,18 @@ use Rattle.asked.proofs.seek.seek.Statement.{statement}
 use Rattle.asked.proofs.seek.seek.Tie as tie
 
 -- the terms of the triple are terms
-in-terms : (c : tie.After-by-axis) → Terms (c .by-axis .result)
+in-terms : (c : tie.After-move-at) → Terms (c .move-at .result)
 in-terms c =
-    let x = c .before .before .before .before .before .before in
-    moved-terms (x .args .site .now) (x .args .k) (x .args .step .axis) (c .before .triple-at .ensures) (c .by-axis .ensures)
-    (x .pre .0 .1) (x .pre .0 .2)
+    let pre = c .before .before .before .before .before .pre in
+    moved-terms (c .move-at .ensures) (pre .0 .1) (pre .0 .2) (pre .7)
 
-triple-at-requires : tie.Need-triple-at-requires
-triple-at-requires c κs = search needs
-
-by-axis-requires : tie.Need-by-axis-requires
-by-axis-requires c κs = search needs
+move-at-requires : tie.Need-move-at-requires
+move-at-requires c κs = let pre = c .before .before .before .before .pre in (pre .0, pre .7)
 
 pursue-requires : tie.Need-pursue-requires
 pursue-requires c κs =
     let t = in-terms (c .before .before) in
-    let p = c .before .before .before .before .before .before .before .before .pre in
+    let p = c .before .before .before .before .before .before .before .pre in
     (p .1, p .2, p .3, p .4, p .5, p .6, t .from, t .middle, t .to)
 
 same-length : tie.Need-same-length
@@ -34,17 +30,15 @@ same-length-2 c = search needs
 returns : tie.Need-returns
 returns c =
     let y = c .before .before .before .before .before .before .before in
-    let x = y .before .before .before .before .before .before in
-    λ n g good h e l. seek-moves {T = pairs (x .args .numbers .now)} (x .args .step .label)
-    (moved-taken (x .args .site .now) (x .args .k) (x .args .step .axis) (y .before .triple-at .ensures) (y .by-axis .ensures) h e l)
+    let args = y .before .before .before .before .before .args in
+    λ n a g good h so e l. seek-moves {T = pairs (args .numbers .now)} (args .label) (moved-taken (y .move-at .ensures) good h a so e l)
     (c .before .before .before .before .pursue .ensures)
 
 pub seek-spec : {M : Type 1} → statement M
 seek-spec =
     tie.close
     (tie.spec
-    triple-at-requires
-    by-axis-requires
+    move-at-requires
     pursue-requires
     same-length
     same-length-2

@@ -45,7 +45,7 @@ settle-requires c κs =
     let start = freed .before .before .before .before .before .before .before in
     let fit = begun-fit (length (start .args .ends .now)) (freed .free .ensures) (lent .clear-row .ensures) (marked .mark .ensures) in
     let (whole, ends) = marks-on-fit (chased .chase .ensures anywhere) fit in
-    (start .pre .0, start .pre .1, whole, ends)
+    (start .pre .0, start .pre .1, whole, ends, start .pre .5)
 
 narrow-requires : tie.Need-narrow-requires
 narrow-requires c κs = tt

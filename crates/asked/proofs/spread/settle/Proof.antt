@@ -15,11 +15,11 @@ use Rattle.asked.proofs.spread.settle.Statement.{statement}
 use Rattle.asked.proofs.spread.settle.Tie as tie
 
 abbrev Inv-loop : tie.InvT-loop
-Inv-loop site triples rule starts count up role first numbers asked₀ ends₀ asked ends =
+Inv-loop site words triples rule starts count up role first numbers asked₀ ends₀ asked ends =
     (g : Goal) → Marks-on (frame (siteOf site triples) up role g) (pairs numbers) (recordsOf rule) first (marks (lows asked₀) ends₀) (marks (lows asked) ends)
 
 abbrev μ-loop : tie.MeasureT-loop
-μ-loop site triples rule starts count up role first numbers asked₀ ends₀ asked ends = blanks (marks (lows asked) ends)
+μ-loop site words triples rule starts count up role first numbers asked₀ ends₀ asked ends = blanks (marks (lows asked) ends)
 
 loop-holds : tie.Need-loop-holds Inv-loop μ-loop
 loop-holds c = λ g. rest
@@ -28,7 +28,7 @@ sweep-requires : tie.Need-sweep-requires Inv-loop μ-loop
 sweep-requires c κs =
     let pre = c .before .before .before .before .before .before .before .before .pre in
     let (whole, ends) = marks-on-fit (c .before .before .loop .inv anywhere) (pre .2, pre .3) in
-    (pre .0, pre .1, whole, ends)
+    (pre .0, pre .1, whole, ends, pre .4)
 
 loop-less : tie.Need-loop-less Inv-loop μ-loop
 loop-less c = swept-fell (c .before .before .before .before .before .sweep .ensures anywhere) (c .if1 .taken)

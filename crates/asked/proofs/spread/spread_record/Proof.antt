@@ -15,7 +15,7 @@ spread-step-requires : tie.Need-spread-step-requires
 spread-step-requires c κs =
     let pre = c .before .before .before .before .before .before .before .before .before .pre in
     let (known, tests) = rw (c .before .before .before .rec .given .1) at (pre .6) in
-    (pre .0, pre .1, pre .2, pre .3, pre .4, pre .5, tests, known)
+    (pre .0, pre .1, pre .2, pre .3, pre .4, pre .5, tests, known, pre .8)
 
 enum-told : tie.Need-enum-told
 enum-told c = search needs
@@ -52,7 +52,7 @@ spread-rests-requires c κs =
     let one = c .before .before .before .before in
     let pre = one .before .before .before .before .before .before .before .before .pre in
     let whole = row-fit (λ F T ends. one .spread-row4 .ensures F T ends .reached) (pre .3) in
-    (pre .0, pre .1, pre .2, whole, pre .4, pre .5, tt, tt)
+    (pre .1, pre .2, whole, pre .4, pre .5, tt, tt, (_, pre .8))
 
 same-length : tie.Need-same-length
 same-length c = search needs
@@ -86,7 +86,7 @@ same-length-6 c = search needs
 returns-4 : tie.Need-returns-4
 returns-4 c = λ g.
     by-star (λ w. marking-chain) _ _ (c .before .before .before .before .before .before .before .before .before .before .before .enum-told3 .given .1)
-    (c .before .before .before .before .before .before .before .before .before .spread-row4 .ensures _ _ _) (c .before .before .before .before .spread-rests .ensures _ g as-empty)
+    (c .before .before .before .before .before .before .before .before .before .spread-row4 .ensures _ _ _) (c .before .before .before .before .spread-rests .ensures _ _ g (c .before .before .before .before .before .before .before .before .before .before .before .before .before .before .before .before .before .pre .8) as-empty)
 
 pub spread-record-spec : {M : Type 1} → statement M
 spread-record-spec =

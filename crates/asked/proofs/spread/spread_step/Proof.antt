@@ -48,7 +48,7 @@ spread-rests-requires c κs =
     let other = c .before .before in
     let start = other .before .before .before .before .before .before .before in
     let pre = start .pre in
-    (pre .0, pre .1, pre .2, pre .3, pre .4, pre .5, pre .6, nameless (start .args .step .label) (other .match .keys2))
+    (pre .1, pre .2, pre .3, pre .4, pre .5, pre .6, nameless (start .args .step .label) (other .match .keys2), (_, pre .8))
 
 same-length-5 : tie.Need-same-length-5
 same-length-5 c = search needs
@@ -57,7 +57,9 @@ same-length-6 : tie.Need-same-length-6
 same-length-6 c = search needs
 
 returns-3 : tie.Need-returns-3
-returns-3 c = λ g. rw (self-axis _ (c .before .before .before .before .before .before .before .before .if1 .left)) (c .before .before .before .before .spread-rests .ensures _ g as-step)
+returns-3 c = λ g.
+    let other = c .before .before .before .before .before .before .before .before in
+    rw (self-axis _ (other .if1 .left)) (c .before .before .before .before .spread-rests .ensures _ _ g (other .before .before .before .before .before .before .pre .8) as-step)
 
 pub spread-step-spec : {M : Type 1} → statement M
 spread-step-spec =

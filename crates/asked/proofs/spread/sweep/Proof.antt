@@ -22,7 +22,7 @@ use Rattle.asked.proofs.spread.sweep.Statement.{statement}
 use Rattle.asked.proofs.spread.sweep.Tie as tie
 
 abbrev Inv-loop : tie.InvT-loop
-Inv-loop site triples rule starts count up role first numbers asked₀ ends₀ more₀ r₀ asked ends more r =
+Inv-loop site words triples rule starts count up role first numbers asked₀ ends₀ more₀ r₀ asked ends more r =
     (r ≤ count) ×
     ((g : Goal) →
     let F = frame (siteOf site triples) up role g in
@@ -30,37 +30,29 @@ Inv-loop site triples rule starts count up role first numbers asked₀ ends₀ m
     (marks (lows asked₀) ends₀) (marks (lows asked) ends) false more)
 
 abbrev μ-loop : tie.MeasureT-loop
-μ-loop site triples rule starts count up role first numbers asked₀ ends₀ more₀ r₀ asked ends more r =
+μ-loop site words triples rule starts count up role first numbers asked₀ ends₀ more₀ r₀ asked ends more r =
     count - r
 
 loop-holds : tie.Need-loop-holds Inv-loop μ-loop
 loop-holds c = (omega arith, λ g. seen-none marks-on-chain)
 
-mul-record-at : tie.Need-mul-record-at Inv-loop μ-loop
-unfolding records
-mul-record-at c = let few = c .before .before .before .before .before .before .before .pre .0 .few in omega arith
-
-element-copy-out-record-at : tie.Need-element-copy-out-record-at Inv-loop μ-loop
-unfolding records
-element-copy-out-record-at c = let few = c .before .before .before .before .before .before .before .pre .0 .few in omega arith
-
-record-at-requires : tie.Need-record-at-requires Inv-loop μ-loop
-record-at-requires c κs = search needs
+record-of-requires : tie.Need-record-of-requires Inv-loop μ-loop
+record-of-requires c κs = let few = c .before .before .before .before .before .before .before .pre .0 .few in omega arith
 
 element-copy-out-operand : tie.Need-element-copy-out-operand Inv-loop μ-loop
 unfolding records
-element-copy-out-operand c = let few = c .before .before .before .before .before .before .before .before .before .pre .0 .few in omega arith
+element-copy-out-operand c = let few = c .before .before .before .before .before .before .before .before .pre .0 .few in omega arith
 
 cast-operand : tie.Need-cast-operand Inv-loop μ-loop
 unfolding records
 cast-operand c =
-    let turn = c .before .before .before in
+    let turn = c .before .before in
     let small = turn .before .before .before .before .before .before .before .pre .0 .firsts (turn .before .loop .r) (turn .loop-test .taken) in
     omega arith
 
 spread-record-requires : tie.Need-spread-record-requires Inv-loop μ-loop
 spread-record-requires c κs =
-    let turn = c .before .before .before .before .before in
+    let turn = c .before .before .before .before in
     let pre = turn .before .before .before .before .before .before .before .pre in
     let ready = pre .0 in
     let at = turn .before .loop in
@@ -72,8 +64,9 @@ spread-record-requires c κs =
       whole,
       ends,
       omega arith,
-      rw (c .before .before .before .record-at .ensures) (ready .sits (at .r) (turn .loop-test .taken)),
+      rw (c .before .before .before .record-of .ensures) (ready .sits (at .r) (turn .loop-test .taken)),
       ready .firsts (at .r) (turn .loop-test .taken),
+      pre .4,
     )
 
 add-r : tie.Need-add-r Inv-loop μ-loop
@@ -84,13 +77,13 @@ loop-less c = omega arith
 
 loop-again : tie.Need-loop-again Inv-loop μ-loop
 loop-again c =
-    let turn = c .before .before .before .before .before .before .before .before .before .before in
+    let turn = c .before .before .before .before .before .before .before .before .before in
     let ready = turn .before .before .before .before .before .before .before .pre .0 in
     let at = turn .before .loop in (
       omega arith,
       λ g. seen-more marks-on-chain (at .inv .1 g)
           (record-sought (rw (← ready .counted) (turn .loop-test .taken))
-          (ap recOf (c .before .before .before .before .before .before .before .before .record-at .ensures) ∙ ready .reads (at .r) (turn .loop-test .taken))
+          (ap recOf (c .before .before .before .before .before .before .before .before .record-of .ensures) ∙ ready .reads (at .r) (turn .loop-test .taken))
           (c .before .before .before .before .spread-record .ensures g)),
     )
 
@@ -112,9 +105,7 @@ sweep-spec =
     Inv-loop
     μ-loop
     loop-holds
-    mul-record-at
-    element-copy-out-record-at
-    record-at-requires
+    record-of-requires
     element-copy-out-operand
     cast-operand
     spread-record-requires

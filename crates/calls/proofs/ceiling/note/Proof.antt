@@ -1,17 +1,15 @@
 -- `calls::ceiling::note` meets its contract: each turn marks the terms of one triple more.
 -- The measure is what is left of the triples.
 use Prim.Native.Nat.{_≤_, _-_}
-use mathlib.Core.Path.{_≡_}
 use native.Mathlib.Omega.{arith}
-use Rattle.meaning.specs.Site.{Mentioned}
-use Rattle.records.specs.Sites.{siteOf}
+use Rattle.records.proofs.Vocabulary.{Standing}
 use Rattle.calls.specs.Tables.{TermTable}
-use Rattle.calls.proofs.Noting.{noted-none, triple-terms, noted-more}
+use Rattle.calls.proofs.Noting.{Stands, noted-none, triple-terms, noted-more, noted-all}
 use Rattle.calls.proofs.ceiling.note.Statement.{statement}
 use Rattle.calls.proofs.ceiling.note.Tie as tie
 
 abbrev Inv-loop : tie.InvT-loop
-Inv-loop site triples seen₀ k₀ seen k = (k ≤ triples) × TermTable (Mentioned (siteOf site k)) seen
+Inv-loop site triples seen₀ k₀ seen k = (k ≤ triples) × TermTable (Standing site Stands k) seen
 
 abbrev μ-loop : tie.MeasureT-loop
 μ-loop site triples seen₀ k₀ seen k = triples - k
@@ -45,10 +43,7 @@ loop-again c =
     )
 
 returns : tie.Need-returns Inv-loop μ-loop
-returns c =
-    let start = c .before .before .before in
-    let all : c .before .loop .k ≡ start .args .triples = omega arith in
-    rw (← all) (c .before .loop .inv .1)
+returns c = noted-all (c .before .before .before .args .site .now) (omega arith) (c .before .loop .inv .1)
 
 pub note-spec : {M : Type 1} → statement M
 note-spec =

@@ -1,39 +1,51 @@
--- `calls::decide::answer` meets its contract: an evaluation with no table of ends leaves the room as it was.
+-- `calls::decide::answer` meets its contract: asking with no table of ends leaves the room as it was shown.
 use native.Mathlib.Omega.{arith}
-use mathlib.Core.Path.{refl, ap, _∙_}
-use lib.ListN.{length}
+use mathlib.Core.Path.{refl, _∙_}
 use borrow.Author.Needs.{needs}
 use Rattle.fewest.specs.Table.{Full}
 use Rattle.asked.specs.Seek.{Whole}
+use Rattle.calls.specs.Promise.{as-bytes, room-steps}
 use Rattle.calls.proofs.Admits.{given-some, given-ready}
-use Rattle.calls.proofs.Deciding.{no-ends, none-before}
+use Rattle.calls.proofs.Deciding.{no-ends, none-before, finished-bits, finished}
 use Rattle.calls.proofs.decide.answer.Statement.{statement}
 use Rattle.calls.proofs.decide.answer.Tie as tie
 
-slice-relend-prefix-evaluate : tie.Need-slice-relend-prefix-evaluate
-slice-relend-prefix-evaluate c = omega arith
+words-of-requires : tie.Need-words-of-requires
+words-of-requires c κs = given-ready (c .before .before .before .before .before .pre .0) .good
 
-slice-aggregate-evaluate : tie.Need-slice-aggregate-evaluate
-slice-aggregate-evaluate c = refl
+fill-requires : tie.Need-fill-requires
+unfolding Full
+fill-requires c κs =
+    let pre = c .before .before .before .before .before .before .before .before .before .pre in
+    (given-ready (pre .0), pre .3 .numbers-fit, c .before .before .before .words-of .ensures)
 
-evaluate-requires : tie.Need-evaluate-requires
+show-requires : tie.Need-show-requires
+show-requires c κs =
+    let pre = c .before .before .before .before .before .before .before .before .before .before .before .before .before .before .before .before .before .pre in
+    let tables = c .before .before .before .before .before .before .before .fill .kept .1 .1 .1 .1 .1 .1 .1 .1 .1 .1 in
+    (pre .0, c .before .before .before .before .before .before .before .fill .ensures, pre .1, record { asked-fits = tables .0 ∙ pre .3 .asked-fits; numbers-fit = tables .1 .0 ∙ pre .3 .numbers-fit }, pre .4)
+
+slice-relend-prefix-ask : tie.Need-slice-relend-prefix-ask
+slice-relend-prefix-ask c = omega arith
+
+slice-aggregate-ask : tie.Need-slice-aggregate-ask
+slice-aggregate-ask c = refl
+
+ask-requires : tie.Need-ask-requires
 unfolding Full Whole
-evaluate-requires c κs =
-    let pre = c .before .before .before .before .before .before .before .before .pre in
-    (given-ready (pre .0), pre .3 .numbers-fit, pre .3 .asked-fits, given-some (pre .0), pre .1)
+ask-requires c κs =
+    let pre = c .before .before .before .before .before .before .before .before .before .before .before .before .before .before .before .before .before .before .before .before .before .before .before .before .before .before .pre in
+    let tables = c .before .before .before .before .before .before .before .before .before .before .before .before .before .before .before .before .fill .kept .1 .1 .1 .1 .1 .1 .1 .1 .1 .1 in
+    (given-ready (pre .0), tables .1 .0 ∙ pre .3 .numbers-fit, c .before .before .before .before .before .before .before .before .show .kept .1 .1 .1 .1 .1 .1 .1 .1 .1 .1 .0 ∙ tables .0 ∙ pre .3 .asked-fits, given-some (pre .0), pre .1, c .before .before .before .before .before .before .before .before .before .before .before .before .before .before .before .before .before .before .before .before .words-of .ensures)
 
 finish-requires : tie.Need-finish-requires
 finish-requires c κs =
-    let pre = c .before .before .before .before .before .before .before .before .before .before .before .before .before .before .before .before .before .before .pre in
-    let kept = c .before .before .before .before .before .before .before .before .before .evaluate .kept .1 .1 .1 .1 .1 .1 .1 .1 .1 .1 in
-    let ends = c .before .before .before .before .before .before .before .before .before .evaluate .last .1 .1 .1 .1 .1 .1 .1 .1 .1 .1 .1 .1 .0 in (
-      pre .0,
-      no-ends ends (kept .1 .1 .0) refl (c .before .before .before .before .before .before .before .before .before .evaluate .ensures),
-      pre .1,
-      pre .2,
-      record { asked-fits = kept .0 ∙ pre .3 .asked-fits; numbers-fit = kept .1 .0 ∙ pre .3 .numbers-fit },
-      ap length (none-before ends (c .before .before .before .before .before .before .before .before .before .before .before .before .before .before .before .before .before .before .args .room .now) (kept .1 .1 .0)) ∙ pre .4,
-    )
+    let pre = c .before .before .before .before .before .before .before .before .before .before .before .before .before .before .before .before .before .before .before .before .before .before .before .before .before .before .before .before .before .before .before .before .pre in
+    let numbers = c .before .before .before .before .before .before .before .before .before .before .before .before .before .before .before .before .before .before .before .before .before .before .fill .last .1 .1 .1 .1 .1 .1 .1 .1 .1 .1 .1 .0 in
+    let ends = c .before .before .before .before .before .ask .last .1 .1 .1 .1 .1 .1 .1 .1 .1 .1 .1 .1 .0 in
+    let kept = c .before .before .before .before .before .ask .kept .1 .1 .1 .1 .1 .1 .1 .1 .1 .1 .1 .1 .0 in
+    let E = no-ends numbers ends kept refl (c .before .before .before .before .before .before .before .before .before .before .before .before .before .before .before .before .before .before .before .before .before .before .fill .ensures) (c .before .before .before .before .before .ask .ensures) in
+    finished-bits (pre .0) E (pre .1)
 
 same-length : tie.Need-same-length
 same-length c = search needs
@@ -42,24 +54,30 @@ same-length-2 : tie.Need-same-length-2
 same-length-2 c = search needs
 
 same-length-3 : tie.Need-same-length-3
-same-length-3 c =
-    let kept = c .before .before .before .before .before .before .before .before .before .before .before .before .evaluate .kept .1 .1 .1 .1 .1 .1 .1 .1 .1 .1 .1 .1 .0 in
-    let ends = c .before .before .before .before .before .before .before .before .before .before .before .before .evaluate .last .1 .1 .1 .1 .1 .1 .1 .1 .1 .1 .1 .1 .0 in
-    c .before .before .finish .kept .1 .1 .1 .1 .1 .1 .1 .1 .1 .1 .1 .1 .0 ∙ ap length (none-before ends (c .before .before .before .before .before .before .before .before .before .before .before .before .before .before .before .before .before .before .before .before .before .args .room .now) kept)
+same-length-3 c = search needs
 
 returns : tie.Need-returns
+unfolding room-steps
 returns c =
-    let kept = c .before .before .before .before .before .before .before .before .before .before .before .before .evaluate .kept .1 .1 .1 .1 .1 .1 .1 .1 .1 .1 .1 .1 .0 in
-    let ends = c .before .before .before .before .before .before .before .before .before .before .before .before .evaluate .last .1 .1 .1 .1 .1 .1 .1 .1 .1 .1 .1 .1 .0 in
-    rw (none-before ends (c .before .before .before .before .before .before .before .before .before .before .before .before .before .before .before .before .before .before .before .before .before .args .room .now) kept) at (c .before .before .finish .ensures (c .before .before .before .before .before .before .before .before .before .before .before .before .before .before .before .before .before .before .before .before .before .args .asked .now) (c .before .before .before .before .before .before .before .before .before .before .before .before .before .before .before .before .before .before .before .before .before .args .numbers .now) (c .before .before .before .before .before .before .before .before .before .before .before .before .before .before .before .before .before .before .before .before .before .pre .3))
+    let pre = c .before .before .before .before .before .before .before .before .before .before .before .before .before .before .before .before .before .before .before .before .before .before .before .before .before .before .before .before .before .before .before .before .before .pre in
+    let tables = c .before .before .before .before .before .before .before .before .before .before .before .before .before .before .before .before .before .before .before .before .before .before .before .fill .kept .1 .1 .1 .1 .1 .1 .1 .1 .1 .1 in
+    let numbers = c .before .before .before .before .before .before .before .before .before .before .before .before .before .before .before .before .before .before .before .before .before .before .before .fill .last .1 .1 .1 .1 .1 .1 .1 .1 .1 .1 .1 .0 in
+    let ends = c .before .before .before .before .before .before .ask .last .1 .1 .1 .1 .1 .1 .1 .1 .1 .1 .1 .1 .0 in
+    let kept = c .before .before .before .before .before .before .ask .kept .1 .1 .1 .1 .1 .1 .1 .1 .1 .1 .1 .1 .0 in
+    let E = no-ends numbers ends kept refl (c .before .before .before .before .before .before .before .before .before .before .before .before .before .before .before .before .before .before .before .before .before .before .before .fill .ensures) (c .before .before .before .before .before .before .ask .ensures) in
+    rw (none-before ends (c .before .before .before .before .before .before .before .before .before .before .before .before .before .before .before .show .last .1 .1 .1 .1 .1 .1 .1 .1 .1 .1 .1 .1 .0) kept, c .finish .ensures)
+    (finished (pre .0) E (pre .1) as-bytes (c .before .before .before .before .before .before .before .before .before .before .before .before .before .before .before .before .before .before .before .before .before .before .before .before .before .before .before .before .before .before .before .before .before .args .room .now) (pre .3) (pre .4) (pre .2) (tables .1 .0 ∙ pre .3 .numbers-fit) (c .before .before .before .before .before .before .before .before .before .before .before .before .before .before .before .show .ensures) (λ i h. omega (arith, pre .4)))
 
 pub answer-spec : {M : Type 1} → statement M
 answer-spec =
     tie.close
     (tie.spec
-    slice-relend-prefix-evaluate
-    slice-aggregate-evaluate
-    evaluate-requires
+    words-of-requires
+    fill-requires
+    show-requires
+    slice-relend-prefix-ask
+    slice-aggregate-ask
+    ask-requires
     finish-requires
     same-length
     same-length-2

@@ -1,32 +1,53 @@
 -- `calls::decide_words::answer_words` meets its contract: the numbers handed back are those that the byte pairs hold.
-use mathlib.Core.Path.{_∙_}
+use native.Mathlib.Omega.{arith}
+use mathlib.Core.Path.{refl, _∙_}
+use lib.ListN.{length}
 use borrow.Author.Needs.{needs}
 use Rattle.fewest.specs.Table.{Full}
 use Rattle.asked.specs.Seek.{Whole}
+use Rattle.calls.specs.Promise.{as-words}
 use Rattle.calls.proofs.Admits.{given-some, given-ready}
-use Rattle.calls.proofs.Deciding.{no-ends}
+use Rattle.calls.proofs.Deciding.{no-ends, finished-bits, finished}
 use Rattle.calls.proofs.decide_words.answer_words.Statement.{statement}
 use Rattle.calls.proofs.decide_words.answer_words.Tie as tie
 
-evaluate-requires : tie.Need-evaluate-requires
-unfolding Whole
-evaluate-requires c κs =
-    let pre = c .before .before .before .before .before .before .before .before .before .before .pre in
-    (given-ready (pre .0), pre .4, pre .3 .asked-fits, given-some (pre .0), pre .1)
+words-of-requires : tie.Need-words-of-requires
+words-of-requires c κs = given-ready (c .before .before .before .before .before .before .before .pre .0) .good
+
+fill-requires : tie.Need-fill-requires
+fill-requires c κs =
+    let pre = c .before .before .before .before .before .before .before .before .before .before .before .pre in
+    (given-ready (pre .0), pre .4, c .before .before .before .words-of .ensures)
+
+show-words-requires : tie.Need-show-words-requires
+unfolding Whole Full
+show-words-requires c κs =
+    let pre = c .before .before .before .before .before .before .before .before .before .before .before .before .before .before .before .before .before .before .before .pre in
+    let tables = c .before .before .before .before .before .before .before .fill .kept .1 .1 .1 .1 .1 .1 .1 .1 .1 .1 in
+    (pre .0, c .before .before .before .before .before .before .before .fill .ensures, pre .1, tables .0 ∙ pre .3 .asked-fits, tables .1 .0 ∙ pre .4, record { numbers = length (c .before .before .before .before .before .before .before .before .before .before .before .before .before .before .before .before .before .before .before .args .room .now); long = refl; enough = omega arith })
+
+ask-requires : tie.Need-ask-requires
+unfolding Full Whole
+ask-requires c κs =
+    let pre = c .before .before .before .before .before .before .before .before .before .before .before .before .before .before .before .before .before .before .before .before .before .before .before .before .before .before .before .before .pre in
+    let tables = c .before .before .before .before .before .before .before .before .before .before .before .before .before .before .before .before .fill .kept .1 .1 .1 .1 .1 .1 .1 .1 .1 .1 in
+    (given-ready (pre .0), tables .1 .0 ∙ pre .4, c .before .before .before .before .before .before .before .before .show-words .kept .1 .1 .1 .1 .1 .1 .1 .1 .1 .1 .1 .0 ∙ tables .0 ∙ pre .3 .asked-fits, given-some (pre .0), pre .1, c .before .before .before .before .before .before .before .before .before .before .before .before .before .before .before .before .before .before .before .before .words-of .ensures)
 
 copy-back-requires : tie.Need-copy-back-requires
 unfolding Full
 copy-back-requires c κs =
-    let pre = c .before .before .before .before .before .before .before .before .before .before .before .before .before .before .before .before .before .before .before .pre in
-    (c .before .before .before .before .before .before .before .before .evaluate .kept .1 .1 .1 .1 .1 .1 .1 .1 .1 .1 .1 .0 ∙ pre .4, pre .3 .numbers-fit)
+    let pre = c .before .before .before .before .before .before .before .before .before .before .before .before .before .before .before .before .before .before .before .before .before .before .before .before .before .before .before .before .before .before .before .before .before .before .before .pre in
+    let tables = c .before .before .before .before .before .before .before .before .before .before .before .before .before .before .before .before .before .before .before .before .before .before .before .fill .kept .1 .1 .1 .1 .1 .1 .1 .1 .1 .1 in
+    (tables .1 .0 ∙ pre .4, pre .3 .numbers-fit)
 
-finish-words-requires : tie.Need-finish-words-requires
-unfolding Full
-finish-words-requires c κs =
-    let pre = c .before .before .before .before .before .before .before .before .before .before .before .before .before .before .before .before .before .before .before .before .before .before .before .before .before .pre in
-    let kept = c .before .before .before .before .before .before .before .before .before .before .before .before .before .before .evaluate .kept .1 .1 .1 .1 .1 .1 .1 .1 .1 .1 .1 in
-    let ends = c .before .before .before .before .before .before .before .before .before .before .before .before .before .before .evaluate .last .1 .1 .1 .1 .1 .1 .1 .1 .1 .1 .1 .1 .0 in
-    (pre .0, no-ends ends (kept .1 .0) (pre .5) (c .before .before .before .before .before .before .before .before .before .before .before .before .before .before .evaluate .ensures), pre .1, pre .2, kept .0 ∙ pre .4)
+finish-requires : tie.Need-finish-requires
+finish-requires c κs =
+    let pre = c .before .before .before .before .before .before .before .before .before .before .before .before .before .before .before .before .before .before .before .before .before .before .before .before .before .before .before .before .before .before .before .before .before .before .before .before .before .before .before .pre in
+    let numbers = c .before .before .before .before .before .before .before .before .before .before .before .before .before .before .before .before .before .before .before .before .before .before .before .before .before .before .before .fill .last .1 .1 .1 .1 .1 .1 .1 .1 .1 .1 .1 .0 in
+    let ends = c .before .before .before .before .before .before .before .before .before .before .ask .last .1 .1 .1 .1 .1 .1 .1 .1 .1 .1 .1 .1 .0 in
+    let kept = c .before .before .before .before .before .before .before .before .before .before .ask .kept .1 .1 .1 .1 .1 .1 .1 .1 .1 .1 .1 .1 .0 in
+    let E = no-ends numbers ends kept (pre .5) (c .before .before .before .before .before .before .before .before .before .before .before .before .before .before .before .before .before .before .before .before .before .before .before .before .before .before .before .fill .ensures) (c .before .before .before .before .before .before .before .before .before .before .ask .ensures) in
+    finished-bits (pre .0) E (pre .1)
 
 same-length : tie.Need-same-length
 same-length c = search needs
@@ -44,15 +65,27 @@ same-length-5 : tie.Need-same-length-5
 same-length-5 c = search needs
 
 returns : tie.Need-returns
-returns c = rw (c .before .before .before .before .before .before .before .before .copy-back .ensures) (c .before .before .finish-words .ensures (c .before .before .before .before .before .before .before .before .before .before .before .before .before .before .before .before .before .before .before .before .before .before .before .before .before .before .before .before .args .asked .now) (c .before .before .before .before .before .before .before .before .before .before .before .before .before .before .before .before .before .before .before .before .before .before .before .before .before .before .before .before .args .numbers .now) (c .before .before .before .before .before .before .before .before .before .before .before .before .before .before .before .before .before .before .before .before .before .before .before .before .before .before .before .before .pre .3))
+unfolding Full
+returns c =
+    let pre = c .before .before .before .before .before .before .before .before .before .before .before .before .before .before .before .before .before .before .before .before .before .before .before .before .before .before .before .before .before .before .before .before .before .before .before .before .before .before .before .before .pre in
+    let tables = c .before .before .before .before .before .before .before .before .before .before .before .before .before .before .before .before .before .before .before .before .before .before .before .before .before .before .before .before .fill .kept .1 .1 .1 .1 .1 .1 .1 .1 .1 .1 in
+    let numbers = c .before .before .before .before .before .before .before .before .before .before .before .before .before .before .before .before .before .before .before .before .before .before .before .before .before .before .before .before .fill .last .1 .1 .1 .1 .1 .1 .1 .1 .1 .1 .1 .0 in
+    let ends = c .before .before .before .before .before .before .before .before .before .before .before .ask .last .1 .1 .1 .1 .1 .1 .1 .1 .1 .1 .1 .1 .0 in
+    let kept = c .before .before .before .before .before .before .before .before .before .before .before .ask .kept .1 .1 .1 .1 .1 .1 .1 .1 .1 .1 .1 .1 .0 in
+    let E = no-ends numbers ends kept (pre .5) (c .before .before .before .before .before .before .before .before .before .before .before .before .before .before .before .before .before .before .before .before .before .before .before .before .before .before .before .before .fill .ensures) (c .before .before .before .before .before .before .before .before .before .before .before .ask .ensures) in
+    rw (c .before .before .before .before .copy-back .ensures, c .finish .ensures)
+    (finished (pre .0) E (pre .1) as-words (c .before .before .before .before .before .before .before .before .before .before .before .before .before .before .before .before .before .before .before .before .before .before .before .before .before .before .before .before .before .before .before .before .before .before .before .before .before .before .before .before .args .room .now) (pre .3) tt (pre .2) (tables .1 .0 ∙ pre .4) (c .before .before .before .before .before .before .before .before .before .before .before .before .before .before .before .before .before .before .before .before .show-words .ensures) (λ i h. omega arith))
 
 pub answer-words-spec : {M : Type 1} → statement M
 answer-words-spec =
     tie.close
     (tie.spec
-    evaluate-requires
+    words-of-requires
+    fill-requires
+    show-words-requires
+    ask-requires
     copy-back-requires
-    finish-words-requires
+    finish-requires
     same-length
     same-length-2
     same-length-3

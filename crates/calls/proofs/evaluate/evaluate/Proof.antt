@@ -1,4 +1,5 @@
--- `calls::evaluate::evaluate` meets its contract: what `fill` settles and what `ask` marks; neither changes a table's length.
+-- `calls::evaluate::evaluate` meets its contract: what `fill` settles and what `ask` marks, both over the words of the site; neither
+-- changes a table's length.
 use mathlib.Core.Path.{_∙_}
 use borrow.Author.Needs.{needs}
 use Rattle.fewest.specs.Table.{Full}
@@ -6,15 +7,23 @@ use Rattle.asked.specs.Seek.{Whole}
 use Rattle.calls.proofs.evaluate.evaluate.Statement.{statement}
 use Rattle.calls.proofs.evaluate.evaluate.Tie as tie
 
+words-of-requires : tie.Need-words-of-requires
+words-of-requires c κs = c .before .before .before .before .before .pre .0 .good
+
 fill-requires : tie.Need-fill-requires
-fill-requires c κs = search needs
+fill-requires c κs =
+    let shown = c .before .before .before in
+    let pre = shown .before .before .before .before .before .before .pre in
+    (pre .0, pre .1, shown .words-of .ensures)
 
 ask-requires : tie.Need-ask-requires
 unfolding Full Whole
 ask-requires c κs =
-    let pre = c .before .before .before .before .before .before .before .before .before .before .before .before .before .before .before .pre in
-    let tables = c .before .before .before .before .before .before .before .fill .kept .1 .1 .1 .1 .1 .1 .1 .1 .1 in
-    (pre .0, tables .1 .0 ∙ pre .1, tables .0 ∙ pre .2, pre .3, pre .4)
+    let filled = c .before .before .before .before .before .before .before .before in
+    let shown = filled .before .before .before .before in
+    let pre = shown .before .before .before .before .before .before .pre in
+    let tables = filled .fill .kept .1 .1 .1 .1 .1 .1 .1 .1 .1 .1 in
+    (pre .0, tables .1 .0 ∙ pre .1, tables .0 ∙ pre .2, pre .3, pre .4, shown .words-of .ensures)
 
 same-length : tie.Need-same-length
 same-length c = search needs
@@ -30,4 +39,4 @@ returns c = search needs
 
 pub evaluate-spec : {M : Type 1} → statement M
 evaluate-spec =
-    tie.close (tie.spec fill-requires ask-requires same-length same-length-2 same-length-3 returns)
+    tie.close (tie.spec words-of-requires fill-requires ask-requires same-length same-length-2 same-length-3 returns)

@@ -13,15 +13,15 @@ use Rattle.calls.proofs.write.write_bytes.Statement.{statement}
 use Rattle.calls.proofs.write.write_bytes.Tie as tie
 
 abbrev Inv-loop : tie.InvT-loop
-Inv-loop site triples rule starts count up role first goal numbers start steps room₀ walk₀ i₀ room walk i =
+Inv-loop site scratch triples rule starts count up role first goal numbers start steps room₀ walk₀ i₀ room walk i =
     Writing as-bytes (recordsOf rule) (links up role first) (siteOf site triples) (goalOf goal) (pairs numbers) start steps room₀ room (walk .stand) (walk .term) i
 
 abbrev μ-loop : tie.MeasureT-loop
-μ-loop site triples rule starts count up role first goal numbers start steps room₀ walk₀ i₀ room walk i =
+μ-loop site scratch triples rule starts count up role first goal numbers start steps room₀ walk₀ i₀ room walk i =
     steps - i
 
 loop-holds : tie.Need-loop-holds Inv-loop μ-loop
-loop-holds c = let pre = c .before .before .before .before .pre in writing-begin (pre .0) (pre .2) (pre .3) (pre .4) (λ k. c .slice-known .given k .fits)
+loop-holds c = let pre = c .before .before .before .before .before .pre in writing-begin (pre .0) (pre .3) (pre .4) (pre .5) (λ k. c .slice-known .given k .fits)
 
 sub-next-step : tie.Need-sub-next-step Inv-loop μ-loop
 sub-next-step c = omega arith
@@ -31,8 +31,8 @@ sub-next-step-2 c = omega arith
 
 next-step-requires : tie.Need-next-step-requires Inv-loop μ-loop
 next-step-requires c κs =
-    let pre = c .before .before .before .before .before .before .pre in
-    (pre .0, pre .1, writing-term (c .before .loop .inv), writing-placed (c .before .loop .inv))
+    let pre = c .before .before .before .before .before .before .before .pre in
+    (pre .0, pre .1, pre .2, writing-term (c .before .loop .inv), writing-placed (c .before .loop .inv))
 
 enum-known-x : tie.Need-enum-known-x Inv-loop μ-loop
 enum-known-x c = search needs

@@ -51,36 +51,31 @@ unfolding records
 cast-above c = omega (arith, higher (c .before .before))
 
 sub-number : tie.Need-sub-number Inv-loop μ-loop
-sub-number c = omega (arith, higher (c .before .before .before))
+sub-number c = omega (arith, higher (c .before .before))
 
 number-requires : tie.Need-number-requires Inv-loop μ-loop
 number-requires c κs =
-    let x = c .before .before .before .before .before .before .before in
-    (x .pre .0, omega (arith, higher (c .before .before .before)), x .pre .3)
+    let x = c .before .before .before .before .before .before in
+    (x .pre .0, omega (arith, higher (c .before .before)), x .pre .3)
 
 least-requires-2 : tie.Need-least-requires-2 Inv-loop μ-loop
 least-requires-2 c κs = search needs
 
 returns-3 : tie.Need-returns-3 Inv-loop μ-loop
 returns-3 c =
-    let (read, top) = c .before .number .ensures in
-    rw (c .least2 .ensures, read)
-    (walk-first (c .before .before .before .before .before .before .before .loop .inv) (c .before .before .if3 .taken) (rw read at top))
-
-again-requires : tie.Need-again-requires Inv-loop μ-loop
-again-requires c κs =
-    let x = c .before .before .before .before .before in
-    (x .before .before .pre .0, x .loop .inv .inside, x .before .before .pre .3)
+    let (read, top) = c .before .before .number .ensures in
+    rw (c .before .least2 .ensures, read)
+    (walk-first (c .before .before .before .before .before .before .before .loop .inv) (c .if3 .taken) (rw read at top))
 
 loop-less : tie.Need-loop-less Inv-loop μ-loop
-loop-less c = omega (arith, higher (c .before .before .before .before))
+loop-less c = omega (arith, higher (c .before .before .before .before .before))
 
 loop-again : tie.Need-loop-again Inv-loop μ-loop
 loop-again c =
-    let x = c .before .before .before .before .before .before in
-    rw (c .again .ensures)
+    let x = c .before .before .before .before .before .before .before in
+    rw (c .before .least2 .ensures, c .before .before .number .ensures .0)
     (walk-up (x .loop .inv) (x .before .before .pre .1)
-    (c .before .before .before .before .if1 .left) (c .before .before .before .if2 .left) (c .before .if3 .left))
+    (c .before .before .before .before .before .if1 .left) (c .before .before .before .before .if2 .left) (c .if3 .left))
 
 pub left-spec : {M : Type 1} → statement M
 left-spec =
@@ -100,6 +95,5 @@ left-spec =
     number-requires
     least-requires-2
     returns-3
-    again-requires
     loop-less
     loop-again)

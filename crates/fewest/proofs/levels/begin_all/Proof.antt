@@ -1,54 +1,83 @@
--- `fewest::levels::begin_all` meets its contract: term by term.
--- The measure is what is left of the terms.
+-- `fewest::levels::begin_all` meets its contract: what may pass empty, then each turn takes the lowest bit away.
+-- The measure is the set that is left.
 use Prim.Native.Nat.{_-_}
 use mathlib.Core.Path.{_≡_, refl, _∙_}
 use lib.ListN.{length}
-use Rattle.meaning.specs.Limits.{terms}
+use lib.Count.{trailing-le}
+use lib.Bits.{and-le-r}
 use Rattle.fewest.specs.Work.{goalOf, Hinted}
 use Rattle.fewest.proofs.Hints.{hinted-none, hinted-then, hinted-full}
+use borrow.Author.Needs.{needs}
 use native.Mathlib.Omega.{arith}
 use Rattle.fewest.proofs.levels.begin_all.Statement.{statement}
 use Rattle.fewest.proofs.levels.begin_all.Tie as tie
 
 abbrev Inv-loop : tie.InvT-loop
-Inv-loop site triples rule starts count up role first goal scratch₀ numbers₀ hints steps b len₀ t₀ scratch numbers len t =
+Inv-loop site triples rule starts count up role first goal scratch₀ numbers₀ hints steps b len₀ rest₀ scratch numbers len rest =
     Hinted site triples rule up role first (goalOf goal) numbers₀ numbers × (length scratch ≡ length scratch₀)
 
 abbrev μ-loop : tie.MeasureT-loop
-μ-loop site triples rule starts count up role first goal scratch₀ numbers₀ hints steps b len₀ t₀ scratch numbers len t = terms - t
+μ-loop site triples rule starts count up role first goal scratch₀ numbers₀ hints steps b len₀ rest₀ scratch numbers len rest = rest
+
+finish-requires : tie.Need-finish-requires Inv-loop μ-loop
+finish-requires c κs = search needs
+
+last-in-requires : tie.Need-last-in-requires Inv-loop μ-loop
+last-in-requires c κs = search needs
 
 loop-holds : tie.Need-loop-holds Inv-loop μ-loop
 loop-holds c = (hinted-none, refl)
 
-begin-requires : tie.Need-begin-requires Inv-loop μ-loop
-unfolding terms
-begin-requires c κs =
-    let turn = c .before .before in
-    let head = turn .before in
-    let pre = head .before .before .before .before .before .before .pre in
-    (pre .0, hinted-full (head .loop .inv .0) (pre .1), turn .loop-test .taken)
+cast-bit : tie.Need-cast-bit Inv-loop μ-loop
+cast-bit c = omega (arith, trailing-le 64 (c .before .loop .rest))
 
-add-t : tie.Need-add-t Inv-loop μ-loop
-add-t c = omega arith
+sub-rest : tie.Need-sub-rest Inv-loop μ-loop
+sub-rest c = omega (arith, c .loop-test .taken)
+
+element-copy-out-wide : tie.Need-element-copy-out-wide Inv-loop μ-loop
+element-copy-out-wide c = omega arith
+
+wide-requires : tie.Need-wide-requires Inv-loop μ-loop
+wide-requires c κs = search needs
+
+sweep-if-requires : tie.Need-sweep-if-requires Inv-loop μ-loop
+sweep-if-requires c κs =
+    let head = c .before .before .before .before .before in
+    let after-finish = head .before .before .before .before .before .before in
+    let pre = after-finish .before .before .before .before .before .before .before .before .pre in
+    (pre .0, hinted-full (hinted-then (after-finish .finish .ensures) (head .loop .inv .0)) (pre .1))
+
+rise-all-requires : tie.Need-rise-all-requires Inv-loop μ-loop
+rise-all-requires c κs =
+    let after-sweep-if = c .before .before .before .before in
+    let head = after-sweep-if .before .before .before .before .before .before in
+    let after-finish = head .before .before .before .before .before .before in
+    let pre = after-finish .before .before .before .before .before .before .before .before .pre in
+    let swept = hinted-then (head .loop .inv .0) (after-sweep-if .sweep-if .ensures) in
+    (pre .0, hinted-full (hinted-then (after-finish .finish .ensures) swept) (pre .1))
 
 loop-less : tie.Need-loop-less Inv-loop μ-loop
-unfolding terms
-loop-less c = omega arith
+loop-less c =
+    let turn = c .before .before .before .before .before .before .before .before .before .before .before .before .before .before in
+    let head = turn .before in
+    omega (arith, turn .loop-test .taken, and-le-r (head .loop .rest) (head .loop .rest - 1))
 
 loop-again : tie.Need-loop-again Inv-loop μ-loop
 loop-again c =
-    let after-begin = c .before .before .before .before in
-    let head = after-begin .before .before .before .before in
-    (hinted-then (head .loop .inv .0) (after-begin .begin .ensures), after-begin .begin .kept .1 .1 .1 .1 .1 .1 .1 .1 .1 .0 ∙ head .loop .inv .1)
+    let after-rise-all = c .before .before .before .before in
+    let after-sweep-if = after-rise-all .before .before .before .before .before in
+    let head = after-sweep-if .before .before .before .before .before .before in
+    let swept = hinted-then (head .loop .inv .0) (after-sweep-if .sweep-if .ensures) in
+    (hinted-then swept (after-rise-all .rise-all .ensures), after-rise-all .rise-all .kept .1 .1 .1 .1 .1 .1 .1 .1 .1 .0 ∙ head .loop .inv .1)
 
 same-length : tie.Need-same-length Inv-loop μ-loop
-same-length c = c .before .loop .inv .1
+same-length c = c .before .loop .inv .1 ∙ c .before .before .before .before .before .before .before .finish .kept .1 .1 .1 .1 .1 .1 .1 .1 .1 .0
 
 same-length-2 : tie.Need-same-length-2 Inv-loop μ-loop
-same-length-2 c = c .before .loop .inv .0 .long
+same-length-2 c = c .before .loop .inv .0 .long ∙ c .before .before .before .before .before .before .before .finish .ensures .long
 
 returns : tie.Need-returns Inv-loop μ-loop
-returns c = c .before .loop .inv .0
+returns c = hinted-then (c .before .before .before .before .before .before .before .finish .ensures) (c .before .loop .inv .0)
 
 pub begin-all-spec : {M : Type 1} → statement M
 begin-all-spec =
@@ -56,9 +85,15 @@ begin-all-spec =
     (tie.spec
     Inv-loop
     μ-loop
+    finish-requires
+    last-in-requires
     loop-holds
-    begin-requires
-    add-t
+    cast-bit
+    sub-rest
+    element-copy-out-wide
+    wide-requires
+    sweep-if-requires
+    rise-all-requires
     loop-less
     loop-again
     same-length

@@ -21,41 +21,31 @@ same-length c = search needs
 returns-2 : tie.Need-returns-2
 returns-2 c = hinted-none
 
-mul-record-at : tie.Need-mul-record-at
-unfolding records
-mul-record-at c =
+record-of-requires : tie.Need-record-of-requires
+record-of-requires c κs =
     let few = c .before .before .before .before .before .before .before .pre .0 .few in
     omega (arith, c .before .before .before .if1 .left)
-
-element-copy-out-record-at : tie.Need-element-copy-out-record-at
-unfolding records
-element-copy-out-record-at c =
-    let few = c .before .before .before .before .before .before .before .pre .0 .few in
-    omega (arith, c .before .before .before .if1 .left)
-
-record-at-requires : tie.Need-record-at-requires
-record-at-requires c κs = search needs
 
 element-copy-out-operand : tie.Need-element-copy-out-operand
 unfolding records
 element-copy-out-operand c =
-    let else-1 = c .before .before .before .before .before in
+    let else-1 = c .before .before .before .before in
     let few = else-1 .before .before .before .before .pre .0 .few in omega (arith, else-1 .if1 .left)
 
 cast-operand : tie.Need-cast-operand
 unfolding records
 cast-operand c =
-    let else-1 = c .before .before .before .before .before .before in
+    let else-1 = c .before .before .before .before .before in
     let small = else-1 .before .before .before .before .pre .0 .firsts _ (else-1 .if1 .left) in omega arith
 
 column-requires : tie.Need-column-requires
 column-requires c κs =
-    let after-record-at = c .before .before in
-    let else-1 = after-record-at .before .before .before .before .before in
+    let after-record-of = c .before .before in
+    let else-1 = after-record-of .before .before .before .before in
     let (ready, full, term) = else-1 .before .before .before .before .pre in
     let here = else-1 .if1 .left in
     let few = ready .few in
-    (ready .good, full, ready .climbs, omega arith, term, rw (after-record-at .record-at .ensures) (ready .sits _ here), ready .firsts _ here)
+    (ready .good, full, ready .climbs, omega arith, term, rw (after-record-of .record-of .ensures) (ready .sits _ here), ready .firsts _ here)
 
 same-length-2 : tie.Need-same-length-2
 same-length-2 c = search needs
@@ -63,9 +53,9 @@ same-length-2 c = search needs
 returns-3 : tie.Need-returns-3
 returns-3 c =
     let after-column = c .before .before in
-    let after-record-at = after-column .before .before .before in
-    let else-1 = after-record-at .before .before .before .before .before in
-    hinted-works (else-1 .before .before .before .before .pre .0) (else-1 .if1 .left) (after-record-at .record-at .ensures)
+    let after-record-of = after-column .before .before .before in
+    let else-1 = after-record-of .before .before .before .before in
+    hinted-works (else-1 .before .before .before .before .pre .0) (else-1 .if1 .left) (after-record-of .record-of .ensures)
     (after-column .column .kept .1 .1 .1 .1 .1 .1 .1 .0) (after-column .column .ensures)
 
 pub fill-in-spec : {M : Type 1} → statement M
@@ -76,9 +66,7 @@ fill-in-spec =
     number-requires
     same-length
     returns-2
-    mul-record-at
-    element-copy-out-record-at
-    record-at-requires
+    record-of-requires
     element-copy-out-operand
     cast-operand
     column-requires

@@ -11,11 +11,14 @@ use Rattle.fewest.proofs.levels.take_all.Statement.{statement}
 use Rattle.fewest.proofs.levels.take_all.Tie as tie
 
 abbrev Inv-loop : tie.InvT-loop
-Inv-loop site triples rule starts count up role first goal scratch₀ numbers₀ hints steps step r u side was axis len₀ k₀ scratch numbers len k =
+Inv-loop site triples rule starts count up role first goal scratch₀ numbers₀ hints steps step r u side was axis parts len₀ k₀ scratch numbers len k =
     Hinted site triples rule up role first (goalOf goal) numbers₀ numbers × (length scratch ≡ length scratch₀)
 
 abbrev μ-loop : tie.MeasureT-loop
-μ-loop site triples rule starts count up role first goal scratch₀ numbers₀ hints steps step r u side was axis len₀ k₀ scratch numbers len k = triples - k
+μ-loop site triples rule starts count up role first goal scratch₀ numbers₀ hints steps step r u side was axis parts len₀ k₀ scratch numbers len k = triples - k
+
+parts-of-requires : tie.Need-parts-of-requires Inv-loop μ-loop
+parts-of-requires c κs = search needs
 
 first-to-requires : tie.Need-first-to-requires Inv-loop μ-loop
 first-to-requires c κs = search needs
@@ -27,8 +30,9 @@ take-requires : tie.Need-take-requires Inv-loop μ-loop
 take-requires c κs =
     let turn = c .before .before in
     let head = turn .before in
-    let pre = head .before .before .before .before .before .before .before .before .pre in
-    (pre .0, hinted-full (head .loop .inv .0) (pre .1), pre .2, turn .loop-test .taken, pre .4, pre .5)
+    let after-parts-of = head .before .before .before in
+    let pre = after-parts-of .before .before .before .before .before .before .pre in
+    (pre .0, hinted-full (head .loop .inv .0) (pre .1), pre .2, turn .loop-test .taken, pre .4, pre .5, after-parts-of .parts-of .ensures)
 
 inverse-requires : tie.Need-inverse-requires Inv-loop μ-loop
 inverse-requires c κs = search needs
@@ -36,12 +40,12 @@ inverse-requires c κs = search needs
 next-from-requires : tie.Need-next-from-requires Inv-loop μ-loop
 next-from-requires c κs =
     let turn = c .before .before .before .before .before .before .before .before .before in
-    (turn .before .before .before .before .before .before .before .before .before .pre .0 .good, turn .loop-test .taken)
+    (turn .before .before .before .before .before .before .before .before .before .before .pre .0 .good, turn .loop-test .taken)
 
 loop-less : tie.Need-loop-less Inv-loop μ-loop
 loop-less c =
     omega
-    (arith, c .next-from .ensures, c .before .before .before .before .before .before .before .before .before .before .loop-test .taken)
+    (arith, c .next-from .ensures .later, c .before .before .before .before .before .before .before .before .before .before .loop-test .taken)
 
 loop-again : tie.Need-loop-again Inv-loop μ-loop
 loop-again c =
@@ -64,6 +68,7 @@ take-all-spec =
     (tie.spec
     Inv-loop
     μ-loop
+    parts-of-requires
     first-to-requires
     loop-holds
     take-requires

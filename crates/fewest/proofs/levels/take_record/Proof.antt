@@ -1,6 +1,5 @@
 -- `fewest::levels::take_record` meets its contract: a step is taken, and nothing else.
 use mathlib.Core.Path.{sym, _∙_}
-use Rattle.meaning.specs.Limits.{records}
 use Rattle.fewest.specs.Work.{Stepping}
 use Rattle.fewest.proofs.Hints.{hinted-none}
 use borrow.Author.Needs.{needs}
@@ -11,16 +10,8 @@ use Rattle.fewest.proofs.levels.take_record.Tie as tie
 returns : tie.Need-returns
 returns c = hinted-none
 
-mul-record-at : tie.Need-mul-record-at
-unfolding records
-mul-record-at c = let few = c .before .before .before .before .before .before .pre .0 .few in omega (arith, c .if1 .left)
-
-element-copy-out-record-at : tie.Need-element-copy-out-record-at
-unfolding records
-element-copy-out-record-at c = let few = c .before .before .before .before .before .before .pre .0 .few in omega (arith, c .if1 .left)
-
-record-at-requires : tie.Need-record-at-requires
-record-at-requires c κs = search needs
+record-of-requires : tie.Need-record-of-requires
+record-of-requires c κs = let few = c .before .before .before .before .before .before .pre .0 .few in omega (arith, c .if1 .left)
 
 enum-known-step : tie.Need-enum-known-step
 enum-known-step c = search needs
@@ -29,10 +20,10 @@ take-step-requires : tie.Need-take-step-requires
 unfolding Stepping
 take-step-requires c κs =
     let after-step = c .before .before .before in
-    let after-record-at = after-step .before .before in
-    let else-1 = after-record-at .before .before in
+    let after-record-of = after-step .before .before in
+    let else-1 = after-record-of .before in
     let pre = else-1 .before .before .before .before .before .before .pre in
-    (pre .0, pre .1, else-1 .if1 .left, pre .2, sym (after-record-at .record-at .ensures) ∙ after-step .step .given .1)
+    (pre .0, pre .1, else-1 .if1 .left, pre .2, sym (after-record-of .record-of .ensures) ∙ after-step .step .given .1)
 
 enum-told : tie.Need-enum-told
 enum-told c = search needs
@@ -66,9 +57,7 @@ take-record-spec =
     tie.close
     (tie.spec
     returns
-    mul-record-at
-    element-copy-out-record-at
-    record-at-requires
+    record-of-requires
     enum-known-step
     take-step-requires
     enum-told

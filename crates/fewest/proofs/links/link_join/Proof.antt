@@ -22,25 +22,33 @@ first-record-requires c κs = let p = c .before .pre in (p .0, operand (p .1 .1)
 sub-operand : tie.Need-sub-operand
 sub-operand c = found c .some
 
+element-copy-out-over : tie.Need-element-copy-out-over
+unfolding records
+element-copy-out-over c = ends-inside _ (c .before .before .pre .1)
+
+element-copy-out-as-it : tie.Need-element-copy-out-as-it
+unfolding records
+element-copy-out-as-it c = ends-inside _ (c .before .before .before .pre .1)
+
 stand-requires : tie.Need-stand-requires
-stand-requires c κs = omega (arith, ends-inside _ (c .before .before .before .before .pre .1))
+stand-requires c κs = omega (arith, ends-inside _ (c .before .before .before .before .before .before .pre .1))
 
 stand-requires-2 : tie.Need-stand-requires-2
 stand-requires-2 c κs =
-    let b = c .before .before .before .before .before in omega (arith, found b, ends-inside _ (b .before .before .pre .1))
+    let b = c .before .before .before .before .before .before .before in omega (arith, found b, ends-inside _ (b .before .before .pre .1))
 
 cast-first : tie.Need-cast-first
 unfolding records
 cast-first c =
-    let b = c .before .before .before .before .before .before in omega (arith, found b, ends-inside _ (b .before .before .pre .1))
+    let b = c .before .before .before .before .before .before .before .before in omega (arith, found b, ends-inside _ (b .before .before .pre .1))
 
 element-write-first : tie.Need-element-write-first
 unfolding records
-element-write-first c = ends-inside _ (c .before .before .before .before .before .before .before .before .pre .1)
+element-write-first c = ends-inside _ (c .before .before .before .before .before .before .before .before .before .before .pre .1)
 
 returns : tie.Need-returns
 returns c =
-    joined (found (c .before .before .before .before .before .before)) (c .before .before .before .stand .ensures) (c .stand2 .ensures)
+    joined (found (c .before .before .before .before .before .before .before .before)) (c .before .before .before .stand .ensures) (c .stand2 .ensures)
 
 pub link-join-spec : {M : Type 1} → statement M
 link-join-spec =
@@ -49,6 +57,8 @@ link-join-spec =
     sub-second
     first-record-requires
     sub-operand
+    element-copy-out-over
+    element-copy-out-as-it
     stand-requires
     stand-requires-2
     cast-first

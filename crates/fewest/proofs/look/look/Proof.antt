@@ -10,28 +10,24 @@ use Rattle.fewest.proofs.look.look.Statement.{statement}
 use Rattle.fewest.proofs.look.look.Tie as tie
 
 -- the terms of the triple are terms
-in-terms : (c : tie.After-by-axis) → Terms (c .by-axis .result)
+in-terms : (c : tie.After-move-at) → Terms (c .move-at .result)
 in-terms c =
-    let x = c .before .before .before .before in
-    moved-terms (x .args .site .now) (x .args .k) (x .args .step .axis) (c .before .triple-at .ensures) (c .by-axis .ensures)
-    (x .pre .0 .1) (x .pre .0 .2)
+    let pre = c .before .before .before .pre in
+    moved-terms (c .move-at .ensures) (pre .0 .1) (pre .0 .2) (pre .5)
 
-triple-at-requires : tie.Need-triple-at-requires
-triple-at-requires c κs = search needs
-
-by-axis-requires : tie.Need-by-axis-requires
-by-axis-requires c κs = search needs
+move-at-requires : tie.Need-move-at-requires
+move-at-requires c κs = let pre = c .before .before .pre in (pre .0, pre .5)
 
 allows-requires : tie.Need-allows-requires
 allows-requires c κs =
-    let x = c .before .before .before .before .before in
-    (x .pre .1, x .pre .3, in-terms (c .before) .middle, x .pre .4)
+    let pre = c .before .before .before .before .pre in
+    (pre .1, pre .3, in-terms (c .before) .middle, pre .4)
 
 left-requires : tie.Need-left-requires
 left-requires c κs =
     let y = c .before .before .before .before in
-    let x = y .before .before .before .before in
-    (x .pre .1, x .pre .2, x .pre .3, in-terms y .to)
+    let pre = y .before .before .before .pre in
+    (pre .1, pre .2, pre .3, in-terms y .to)
 
 add-lower : tie.Need-add-lower
 unfolding none
@@ -40,8 +36,8 @@ add-lower c = omega arith
 lower-requires : tie.Need-lower-requires
 lower-requires c κs =
     let y = c .before .before .before .before .before .before in
-    let x = y .before .before .before .before in
-    (x .pre .1, x .pre .3, in-terms y .from)
+    let pre = y .before .before .before .pre in
+    (pre .1, pre .3, in-terms y .from)
 
 same-length : tie.Need-same-length
 same-length c = search needs
@@ -50,9 +46,9 @@ returns : tie.Need-returns
 returns c =
     let z = c .before .before .before .before in
     let y = z .before .before .before .before .before in
-    let x = y .before .before .before .before in
-    λ n good h e l. look-passes (x .args .step .label) (pairs (x .args .numbers .now))
-    (moved-taken (x .args .site .now) (x .args .k) (x .args .step .axis) (y .before .triple-at .ensures) (y .by-axis .ensures) h e l)
+    let args = y .before .before .before .args in
+    λ n a good h so e l. look-passes (args .label) (pairs (args .numbers .now))
+    (moved-taken (y .move-at .ensures) good h a so e l)
     (z .before .before .before .allows .ensures) (z .before .before .if1 .taken) (in-terms y .from) (z .left .ensures) (c .before .before .lower .ensures)
 
 same-length-2 : tie.Need-same-length-2
@@ -61,17 +57,15 @@ same-length-2 c = search needs
 returns-2 : tie.Need-returns-2
 returns-2 c =
     let y = c .before .before .before in
-    let x = y .before .before .before .before in
-    λ n good h e l. look-barred (x .args .step .label) (pairs (x .args .numbers .now))
-    (moved-taken (x .args .site .now) (x .args .k) (x .args .step .axis) (y .before .triple-at .ensures) (y .by-axis .ensures) h e l)
+    let args = y .before .before .before .args in
+    λ n a good h so e l. look-barred (args .label) (pairs (args .numbers .now)) (moved-taken (y .move-at .ensures) good h a so e l)
     (c .before .allows .ensures) (c .if1 .left)
 
 pub look-spec : {M : Type 1} → statement M
 look-spec =
     tie.close
     (tie.spec
-    triple-at-requires
-    by-axis-requires
+    move-at-requires
     allows-requires
     left-requires
     add-lower

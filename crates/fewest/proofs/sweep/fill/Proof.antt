@@ -16,8 +16,10 @@ levels-requires c κs = let pre = c .before .before .before .before .before .bef
 settle-requires : tie.Need-settle-requires
 unfolding Full
 settle-requires c κs =
-    let pre = c .before .before .before .before .before .before .before .before .before .before .before .before .before .before .before .before .before .pre in
-    (pre .0, hinted-full (c .before .before .before .before .before .before .levels .ensures) (c .before .before .before .before .before .before .before .before .before .before .before .clear .kept .0 ∙ pre .1))
+    let levelled = c .before .before .before .before .before in
+    let cleared = levelled .before .before .before .before .before in
+    let pre = cleared .before .before .before .before .before .before .pre in
+    (pre .0, hinted-full (levelled .levels .ensures) (cleared .clear .kept .0 ∙ pre .1), pre .2)
 
 same-length : tie.Need-same-length
 same-length c = search needs
@@ -27,7 +29,8 @@ same-length-2 c = search needs
 
 returns : tie.Need-returns
 returns c =
-    rw (c .before .before .before .before .before .before .before .before .before .before .before .before .before .before .clear .ensures) at (hinted-settled (c .before .before .before .before .before .before .before .before .before .levels .ensures) (c .before .before .settle .ensures))
+    let levelled = c .before .before .before .before .before .before .before .before in
+    rw (levelled .before .before .before .before .before .clear .ensures) at (hinted-settled (levelled .levels .ensures) (c .before .before .settle .ensures))
 
 pub fill-spec : {M : Type 1} → statement M
 fill-spec =

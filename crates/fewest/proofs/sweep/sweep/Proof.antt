@@ -22,52 +22,45 @@ use Rattle.fewest.proofs.sweep.sweep.Statement.{statement}
 use Rattle.fewest.proofs.sweep.sweep.Tie as tie
 
 abbrev Inv-loop : tie.InvT-loop
-Inv-loop site scratch triples rule starts count up role first goal numbers₀ changed₀ r₀ numbers changed r =
+Inv-loop site words triples rule starts count up role first goal numbers₀ changed₀ r₀ numbers changed r =
     let F = frame (siteOf site triples) up role (goalOf goal) in
     (r ≤ count) × (length numbers ≡ length numbers₀) ×
     Seen sum (Settles F (recordsOf rule) first) (RecordQuiet F (recordsOf rule) first) r (pairs numbers₀) (pairs numbers) false changed
 
 abbrev μ-loop : tie.MeasureT-loop
-μ-loop site scratch triples rule starts count up role first goal numbers₀ changed₀ r₀ numbers changed r = count - r
+μ-loop site words triples rule starts count up role first goal numbers₀ changed₀ r₀ numbers changed r = count - r
 
 loop-holds : tie.Need-loop-holds Inv-loop μ-loop
 loop-holds c = (omega arith, omega arith, seen-none settles-chain)
 
-mul-record-at : tie.Need-mul-record-at Inv-loop μ-loop
-unfolding records
-mul-record-at c = let few = c .before .before .before .before .before .before .pre .0 .few in omega arith
-
-element-copy-out-record-at : tie.Need-element-copy-out-record-at Inv-loop μ-loop
-unfolding records
-element-copy-out-record-at c = let few = c .before .before .before .before .before .before .pre .0 .few in omega arith
-
-record-at-requires : tie.Need-record-at-requires Inv-loop μ-loop
-record-at-requires c κs = search needs
+record-of-requires : tie.Need-record-of-requires Inv-loop μ-loop
+record-of-requires c κs = let few = c .before .before .before .before .before .pre .0 .few in omega arith
 
 element-copy-out-operand : tie.Need-element-copy-out-operand Inv-loop μ-loop
 unfolding records
-element-copy-out-operand c = let few = c .before .before .before .before .before .before .before .before .pre .0 .few in omega arith
+element-copy-out-operand c = let few = c .before .before .before .before .before .before .pre .0 .few in omega arith
 
 cast-operand : tie.Need-cast-operand Inv-loop μ-loop
 unfolding records
 cast-operand c =
-    let turn = c .before .before .before in
-    let small = turn .before .before .before .before .before .before .pre .0 .firsts (turn .before .loop .r) (turn .loop-test .taken) in
+    let turn = c .before .before in
+    let small = turn .before .before .before .before .before .pre .0 .firsts (turn .before .loop .r) (turn .loop-test .taken) in
     omega arith
 
 sweep-record-requires : tie.Need-sweep-record-requires Inv-loop μ-loop
 unfolding Full
 sweep-record-requires c κs =
-    let turn = c .before .before .before .before in
-    let (ready, full) = turn .before .before .before .before .before .before .pre in
+    let turn = c .before .before .before in
+    let (ready, full, words) = turn .before .before .before .before .before .pre in
     let at = turn .before .loop in
     let few = ready .few in (
       ready .good,
       at .inv .1 ∙ full,
       ready .climbs,
       omega arith,
-      rw (c .before .before .record-at .ensures) (ready .sits (at .r) (turn .loop-test .taken)),
+      rw (c .before .before .record-of .ensures) (ready .sits (at .r) (turn .loop-test .taken)),
       ready .firsts (at .r) (turn .loop-test .taken),
+      words,
     )
 
 add-r : tie.Need-add-r Inv-loop μ-loop
@@ -78,14 +71,14 @@ loop-less c = omega arith
 
 loop-again : tie.Need-loop-again Inv-loop μ-loop
 loop-again c =
-    let turn = c .before .before .before .before .before .before .before in
-    let ready = turn .before .before .before .before .before .before .pre .0 in
+    let turn = c .before .before .before .before .before .before in
+    let ready = turn .before .before .before .before .before .pre .0 in
     let at = turn .before .loop in (
       omega arith,
       c .before .before .sweep-record .kept .1 .1 .1 .1 .1 .1 .1 .1 .0 ∙ at .inv .1,
       seen-more settles-chain (at .inv .2)
           (record-swept (rw (← ready .counted) (turn .loop-test .taken))
-          (ap recOf (c .before .before .before .before .before .record-at .ensures) ∙ ready .reads (at .r) (turn .loop-test .taken))
+          (ap recOf (c .before .before .before .before .before .record-of .ensures) ∙ ready .reads (at .r) (turn .loop-test .taken))
           (c .before .before .sweep-record .ensures)),
     )
 
@@ -94,7 +87,7 @@ same-length c = omega arith
 
 returns : tie.Need-returns Inv-loop μ-loop
 returns c =
-    let counted = c .before .before .before .before .before .before .pre .0 .counted in
+    let counted = c .before .before .before .before .before .pre .0 .counted in
     all-swept (omega arith) (c .before .loop .inv .2)
 
 pub sweep-spec : {M : Type 1} → statement M
@@ -104,9 +97,7 @@ sweep-spec =
     Inv-loop
     μ-loop
     loop-holds
-    mul-record-at
-    element-copy-out-record-at
-    record-at-requires
+    record-of-requires
     element-copy-out-operand
     cast-operand
     sweep-record-requires

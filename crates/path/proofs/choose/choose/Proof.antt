@@ -13,19 +13,19 @@ use Rattle.path.proofs.choose.choose.Statement.{statement}
 use Rattle.path.proofs.choose.choose.Tie as tie
 
 abbrev Inv-loop : tie.InvT-loop
-Inv-loop site triples rule starts count up role first goal numbers shut word t d r₀ r =
+Inv-loop site scratch triples rule starts count up role first goal numbers shut word t d r₀ r =
     (q : ℕ) → q < r → Barren (frame (siteOf site triples) up role (goalOf goal)) (pairs numbers) (recordsOf rule) shut t d q
 
 abbrev μ-loop : tie.MeasureT-loop
-μ-loop site triples rule starts count up role first goal numbers shut word t d r₀ r = count - r
+μ-loop site scratch triples rule starts count up role first goal numbers shut word t d r₀ r = count - r
 
 loop-holds : tie.Need-loop-holds Inv-loop μ-loop
 loop-holds c = below-none _
 
 of-record-requires : tie.Need-of-record-requires Inv-loop μ-loop
 of-record-requires c κs =
-    let pre = c .before .before .before .before .before .pre in
-    (pre .0, pre .1, c .loop-test .taken, pre .2, pre .3)
+    let pre = c .before .before .before .before .before .before .pre in
+    (pre .0, pre .1, pre .2, c .loop-test .taken, pre .3, pre .4)
 
 enum-told : tie.Need-enum-told Inv-loop μ-loop
 enum-told c = search needs
@@ -47,7 +47,7 @@ loop-again c =
     below-more _ _ (c .before .before .before .before .loop .inv) (open-idle (c .enum-told2 .given .1) (c .before .before .of-record .ensures))
 
 returns-2 : tie.Need-returns-2 Inv-loop μ-loop
-returns-2 c = open-none (omega (arith, c .before .before .before .before .before .pre .0 .counted)) (c .before .loop .inv)
+returns-2 c = open-none (omega (arith, c .before .before .before .before .before .before .pre .0 .counted)) (c .before .loop .inv)
 
 pub choose-spec : {M : Type 1} → statement M
 choose-spec =

@@ -18,33 +18,25 @@ element-copy-out-if1 c = omega arith
 returns : tie.Need-returns
 returns c = of-shut (c .if1 .taken)
 
-mul-record-at : tie.Need-mul-record-at
-unfolding records
-mul-record-at c = omega arith
-
-element-copy-out-record-at : tie.Need-element-copy-out-record-at
-unfolding records
-element-copy-out-record-at c = omega arith
-
-record-at-requires : tie.Need-record-at-requires
-record-at-requires c κs = search needs
+record-of-requires : tie.Need-record-of-requires
+record-of-requires c κs = omega arith
 
 enum-known-step : tie.Need-enum-known-step
 enum-known-step c = search needs
 
 -- the record that was read is the rule's
-read : (c : tie.After-record-at) → let start = c .before .before .before .before .before .before .before in
-    recOf (c .record-at .result) ≡ getD (recordsOf (start .args .rule .now)) (start .args .r) starring
+read : (c : tie.After-record-of) → let start = c .before .before .before .before .before .before .before in
+    recOf (c .record-of .result) ≡ getD (recordsOf (start .args .rule .now)) (start .args .r) starring
 read c =
     let pre = c .before .before .before .before .before .before .before .pre in
-    ap recOf (c .record-at .ensures) ∙ pre .0 .reads _ (pre .2)
+    ap recOf (c .record-of .ensures) ∙ pre .0 .reads _ (pre .3)
 
 by-step-requires : tie.Need-by-step-requires
 by-step-requires c κs =
     let pre = c .before .before .before .before .before .before .before .before .before .before .pre in
     let ready = pre .0 in
-    let sits = rw (sym (c .before .before .before .record-at .ensures) ∙ c .before .step .given .1) at (ready .sits _ (pre .2)) in
-    (ready .good, pre .1, ready .climbs, omega (arith, ready .few), sits .1, sits .0, pre .3, pre .4)
+    let sits = rw (sym (c .before .before .before .record-of .ensures) ∙ c .before .step .given .1) at (ready .sits _ (pre .3)) in
+    (ready .good, pre .1, pre .2, ready .climbs, omega (arith, ready .few), sits .1, sits .0, pre .4, pre .5)
 
 enum-told : tie.Need-enum-told
 enum-told c = search needs
@@ -58,7 +50,7 @@ enum-told-3 c = search needs
 returns-2 : tie.Need-returns-2
 returns-2 c =
     let pre = c .before .before .before .before .before .before .before .before .before .before .before .pre in
-    of-open (record { inside = omega (arith, pre .0 .few); clear = c .before .before .before .before .before .before .if1 .left })
+    of-open (record { inside = omega (arith, pre .0 .few); clear = c .before .before .before .before .before .if1 .left })
     (c .by-step .ensures _ (sym (read (c .before .before .before .before)) ∙ ap recOf (c .before .before .step .given .1)))
 
 returns-3 : tie.Need-returns-3
@@ -76,9 +68,7 @@ of-record-spec =
     (tie.spec
     element-copy-out-if1
     returns
-    mul-record-at
-    element-copy-out-record-at
-    record-at-requires
+    record-of-requires
     enum-known-step
     by-step-requires
     enum-told

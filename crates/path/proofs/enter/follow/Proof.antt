@@ -40,16 +40,13 @@ unfolding records
 cast-above c = omega (arith, higher (c .before .before))
 
 sub-mark : tie.Need-sub-mark Inv-loop μ-loop
-sub-mark c = omega (arith, higher (c .before .before .before .before))
+sub-mark c = omega (arith, higher (c .before .before .before))
 
 mark-requires : tie.Need-mark-requires Inv-loop μ-loop
-mark-requires c κs = omega (arith, higher (c .before .before .before .before))
+mark-requires c κs = omega (arith, higher (c .before .before .before))
 
 returns-3 : tie.Need-returns-3 Inv-loop μ-loop
-returns-3 c = climb-first (c .before .before .before .before .before .before .before .loop .inv) (c .before .before .if3 .taken) (c .mark .ensures)
-
-again-requires : tie.Need-again-requires Inv-loop μ-loop
-again-requires c κs = c .before .before .before .before .before .before .loop .inv .inside
+returns-3 c = climb-first (c .before .before .before .before .before .before .before .loop .inv) (c .if3 .taken) (c .before .mark .ensures)
 
 loop-less : tie.Need-loop-less Inv-loop μ-loop
 loop-less c = omega (arith, higher (c .before .before .before .before .before))
@@ -59,8 +56,8 @@ loop-again c =
     let climb = c .before .before .before .before .before .before .before .loop .inv in
     let known = c .before .before .before .before .before .before .before .before .pre .0 .known _ (climb .inside) in
     climb-up climb (higher (c .before .before .before .before .before) .1)
-    (omega (arith, c .before .before .if3 .left, c .before .before .before .before .if2 .left, c .before .before .before .before .before .if1 .left))
-    known (c .again .ensures)
+    (omega (arith, known, c .if3 .left, c .before .before .before .before .if2 .left, c .before .before .before .before .before .if1 .left))
+    (c .before .mark .ensures)
 
 pub follow-spec : {M : Type 1} → statement M
 follow-spec =
@@ -77,6 +74,5 @@ follow-spec =
     sub-mark
     mark-requires
     returns-3
-    again-requires
     loop-less
     loop-again)

@@ -14,7 +14,9 @@ is-object-requires : tie.Need-is-object-requires
 is-object-requires c κs = search needs
 
 returns-2 : tie.Need-returns-2
-returns-2 c = word-object (c .before .before .is-subject .ensures) (c .before .if1 .left) (c .is-object .ensures)
+returns-2 c =
+    let pre = c .before .before .before .before .before .pre in
+    word-object (c .before .before .is-subject .ensures) (c .before .if1 .left) (c .is-object .ensures _ (pre .1) (pre .2))
 
 pub word-spec : {M : Type 1} → statement M
 word-spec = tie.close (tie.spec is-subject-requires returns is-object-requires returns-2)

@@ -77,9 +77,12 @@ returns c =
     (c .refused-rule .ensures .0 ∙ ap answered.Refused (c .before .refusal-of .ensures (refused .0) (refused .1)))
     (c .refused-rule .ensures .1)
 
-mul-starts : tie.Need-mul-starts Inv-loop μ-loop
+cast-starts : tie.Need-cast-starts Inv-loop μ-loop
 unfolding records
-mul-starts c = let g = good (c .before) in omega arith
+cast-starts c =
+    let g = good (c .before) in
+    let p = c .before .before .before .before .before .loop in
+    omega (arith, g .room, p .inv .near)
 
 array-write-starts : tie.Need-array-write-starts Inv-loop μ-loop
 unfolding records
@@ -131,7 +134,7 @@ check-rule-spec =
     refusal-of-requires
     refused-rule-requires
     returns
-    mul-starts
+    cast-starts
     array-write-starts
     add-count
     operands-of-requires

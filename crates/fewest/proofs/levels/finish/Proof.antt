@@ -1,0 +1,46 @@
+-- `fewest::levels::finish` meets its contract: where no star ends the body, nothing of the table.
+use Rattle.fewest.proofs.Hints.{hinted-none}
+use borrow.Author.Needs.{needs}
+use Rattle.fewest.proofs.levels.finish.Statement.{statement}
+use Rattle.fewest.proofs.levels.finish.Tie as tie
+
+ends-in-star-requires : tie.Need-ends-in-star-requires
+ends-in-star-requires c κs = search needs
+
+finish-all-requires : tie.Need-finish-all-requires
+finish-all-requires c κs = search needs
+
+same-length : tie.Need-same-length
+same-length c = search needs
+
+same-length-2 : tie.Need-same-length-2
+same-length-2 c = search needs
+
+returns : tie.Need-returns
+returns c = search needs
+
+last-in-requires : tie.Need-last-in-requires
+last-in-requires c κs = search needs
+
+close-all-requires : tie.Need-close-all-requires
+close-all-requires c κs = search needs
+
+same-length-3 : tie.Need-same-length-3
+same-length-3 c = search needs
+
+returns-2 : tie.Need-returns-2
+returns-2 c = hinted-none
+
+pub finish-spec : {M : Type 1} → statement M
+finish-spec =
+    tie.close
+    (tie.spec
+    ends-in-star-requires
+    finish-all-requires
+    same-length
+    same-length-2
+    returns
+    last-in-requires
+    close-all-requires
+    same-length-3
+    returns-2)

@@ -1,0 +1,53 @@
+-- `fewest::levels::finish_at` meets its contract: what may pass empty, and nothing of the table after it.
+use Rattle.meaning.specs.Limits.{terms}
+use Rattle.fewest.proofs.Hints.{hinted-none}
+use borrow.Author.Needs.{needs}
+use native.Mathlib.Omega.{arith}
+use Rattle.fewest.proofs.levels.finish_at.Statement.{statement}
+use Rattle.fewest.proofs.levels.finish_at.Tie as tie
+
+witness-requires : tie.Need-witness-requires
+witness-requires c κs = search needs
+
+same-length : tie.Need-same-length
+same-length c = search needs
+
+returns : tie.Need-returns
+returns c = hinted-none
+
+pass-empty-requires : tie.Need-pass-empty-requires
+pass-empty-requires c κs = search needs
+
+add-put-set : tie.Need-add-put-set
+unfolding terms
+add-put-set c = omega (arith, c .before .before .before .before .before .before .before .before .before .before .before .before .before .pre .2)
+
+last-in-requires : tie.Need-last-in-requires
+last-in-requires c κs = search needs
+
+put-set-requires : tie.Need-put-set-requires
+put-set-requires c κs = search needs
+
+same-length-2 : tie.Need-same-length-2
+same-length-2 c = search needs
+
+same-length-3 : tie.Need-same-length-3
+same-length-3 c = search needs
+
+returns-2 : tie.Need-returns-2
+returns-2 c = search needs
+
+pub finish-at-spec : {M : Type 1} → statement M
+finish-at-spec =
+    tie.close
+    (tie.spec
+    witness-requires
+    same-length
+    returns
+    pass-empty-requires
+    add-put-set
+    last-in-requires
+    put-set-requires
+    same-length-2
+    same-length-3
+    returns-2)

@@ -1,0 +1,23 @@
+-- Cells of two bytes in the lent byte table: of each byte the six bits above its two low ones, high byte first.
+-- The low bits belong to the marks, and no cell sees them.
+use Prim.Native.Nat.{ℕ, _+_, _*_, _-_, _/_}
+use mathlib.Core.List.{List}
+use Rattle.fewest.specs.Pairs.{coupled}
+
+-- how many values six bits have, the two bits below them, and a cell
+abbrev pub half : ℕ
+half = 64
+
+abbrev pub lowest : ℕ
+lowest = 4
+
+abbrev pub values : ℕ
+values = half * half
+
+-- the value of a cell that names nothing
+abbrev pub nothing : ℕ
+nothing = values - 1
+
+-- the values that the bytes hold, two bytes a value
+unfoldable pub cells : List ℕ → List ℕ
+cells b = coupled (λ (h l : ℕ). h / lowest * half + l / lowest) b

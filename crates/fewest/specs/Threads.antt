@@ -1,0 +1,95 @@
+-- The triples threaded by their predicates and by their objects, in cells: for each term its first triple, for each triple
+-- the next with the same. Who starts at the first and goes on by the next meets every triple of the term, in rising order.
+use Prim.Native.Nat.{ℕ, suc, _+_, _*_, _<_, _≤_}
+use mathlib.Core.Path.{_≡_}
+use mathlib.Core.Logic.{_≢_}
+use mathlib.Core.Bool.{cond}
+use mathlib.Core.List.{List}
+use lib.ListN.{length, getD, set}
+use lib.Dec.{eqb}
+use Rattle.meaning.specs.Limits.{terms, triples, records}
+use Rattle.meaning.specs.Site.{Site, triple}
+use Rattle.records.specs.Sites.{Accepted, siteOf}
+use Rattle.records.specs.Rules.{lastAxis}
+use Rattle.fewest.specs.Cells.{cells, nothing}
+
+-- where the first triples stand, by predicate and by object, and where the next ones do; the first by subject stand before
+-- them, and what is behind them is free
+abbrev pub predicate-first : ℕ
+predicate-first = terms
+
+abbrev pub object-first : ℕ
+object-first = predicate-first + terms
+
+abbrev pub predicate-next : ℕ
+predicate-next = object-first + terms
+
+abbrev pub object-next : ℕ
+object-next = predicate-next + triples
+
+abbrev pub free : ℕ
+free = object-next + triples
+
+-- j is the first triple from number k on, of n, whose key is t; n or more where there is none
+pub record First (key : ℕ → ℕ) (n t k j : ℕ) : Type 0 where
+  pub own : j < n → (k ≤ j) × (key j ≡ t)
+  pub least : (i : ℕ) → k ≤ i → i < n → key i ≡ t → j ≤ i
+
+-- of n triples those from number k on are threaded by this key, in cells from these two places on
+pub record Threaded (key : ℕ → ℕ) (n at-first at-next : ℕ) (C : List ℕ) (k : ℕ) : Type 0 where
+  pub first : (t : ℕ) → t < terms → First key n t k (getD C (at-first + t) 0)
+  pub next : (i : ℕ) → k ≤ i → i < n → First key n (key i) (suc i) (getD C (at-next + i) 0)
+
+abbrev pub predicateOf : List ℕ → ℕ → ℕ → ℕ
+predicateOf b n j = triple (siteOf b n) j .predicate
+
+abbrev pub objectOf : List ℕ → ℕ → ℕ → ℕ
+objectOf b n j = triple (siteOf b n) j .object
+
+-- the triples from number k on are threaded by both
+pub record ThreadsFrom (b : List ℕ) (n k : ℕ) (X : List ℕ) : Type 0 where
+  pub predicates : Threaded (predicateOf b n) n predicate-first predicate-next (cells X) k
+  pub objects : Threaded (objectOf b n) n object-first object-next (cells X) k
+
+-- all of them are
+abbrev pub Threads : List ℕ → ℕ → List ℕ → Type 0
+Threads b n X = ThreadsFrom b n 0 X
+
+-- every cell names nothing
+abbrev pub Blank : List ℕ → Type 0
+Blank X = (i : ℕ) → i + i + 1 < length X → getD (cells X) i 0 ≡ nothing
+
+-- triple k becomes the first of a thread: it is put in the thread's cell, and what stood there in the triple's own
+pub record Headed (first next k : ℕ) (C D : List ℕ) : Type 0 where
+  pub stored : D ≡ set (set C next (getD C first 0)) first k
+
+-- triple k was threaded, and those behind it are as they were
+abbrev pub ThreadedOne : List ℕ → ℕ → List ℕ → List ℕ → Type 0
+ThreadedOne b k X Y = (n : ℕ) → Accepted b n → k < n → length X ≡ records * terms → ThreadsFrom b n (suc k) X → ThreadsFrom b n k Y
+
+-- an axis by which a triple starts at its predicate or its object
+pub record OffSubject (axis : ℕ) : Type 0 where
+  pub moving : axis ≢ 0
+  pub not-next : axis ≢ 1
+  pub not-edge : axis ≢ 3
+  pub known : axis ≤ lastAxis
+
+-- where triple j starts by the axis
+unfoldable pub startBy : ℕ → Site → ℕ → ℕ
+startBy axis s j =
+    cond (eqb axis 1) (triple s j .subject)
+    (cond (eqb axis 2) (triple s j .object)
+    (cond (eqb axis 3) (triple s j .subject)
+    (cond (eqb axis 4) (triple s j .predicate)
+    (cond (eqb axis 5) (triple s j .predicate)
+    (triple s j .object)))))
+
+-- by threads the first triple that starts at t
+abbrev pub FirstFrom : List ℕ → (axis t j : ℕ) → Type 0
+FirstFrom X axis t j =
+    (b : List ℕ) (n : ℕ) → Threads b n X → OffSubject axis → t < terms → First (startBy axis (siteOf b n)) n t 0 j
+
+-- a later triple than k; by threads the next that starts at t, where k does
+pub record NextFrom (b : List ℕ) (n : ℕ) (X : List ℕ) (axis t k j : ℕ) : Type 0 where
+  pub later : k < j
+  pub next : Threads b n X → OffSubject axis → startBy axis (siteOf b n) k ≡ t → First (startBy axis (siteOf b n)) n t (suc k) j
