@@ -11,7 +11,7 @@ use borrow.Author.Count.{below-more}
 use borrow.Author.Fill.{fill-more}
 use Rattle.fewest.specs.Lows.{low, lows}
 use Rattle.fewest.proofs.Lows.{length-lows, getD-lows, lows-set-keep}
-use Rattle.asked.specs.Seek.{Whole, Bits}
+use Rattle.asked.specs.Seek.{Bits}
 use Rattle.asked.proofs.Clearing.{Filled}
 
 pub lows-bits : (b : List ℕ) → Bits (lows b)
@@ -27,10 +27,6 @@ lows-set (x ∷ b) (suc i) v = ap (λ (l : List ℕ). low x ∷ l) (lows-set b i
 -- Marks that are as many stand in byte tables that are as long.
 pub same-long : (b d : List ℕ) → length (lows b) ≡ length (lows d) → length b ≡ length d
 same-long b d e = sym (length-lows b) ∙ e ∙ length-lows d
-
-pub whole-lows : (b : List ℕ) → Whole b → Whole (lows b)
-unfolding Whole
-whole-lows b long = length-lows b ∙ long
 
 -- An even byte is stored where the marks are not yet freed.
 pub freed-more : (d b : List ℕ) (i v : ℕ) → i < length d → v % 2 ≡ 0 → Filled (lows d) i (lows b) → Filled (lows d) (i + 1) (lows (set b i v))

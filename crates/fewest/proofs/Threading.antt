@@ -9,9 +9,10 @@ use lib.ListN.{length, getD, set, length-set}
 use lib.Seq.{getD-set-same, getD-set-other}
 use Rattle.meaning.specs.Limits.{terms, triples, records}
 use Rattle.records.specs.Sites.{Accepted, siteOf}
+use Rattle.records.specs.Rules.{axisNumbered}
 use Rattle.records.proofs.Sites.{length-siteOf}
 use Rattle.fewest.specs.Cells.{cells, nothing}
-use Rattle.fewest.specs.Threads.{predicate-first, object-first, predicate-next, object-next, free, First, Threaded, predicateOf, objectOf, ThreadsFrom, Threads, Blank, Headed, OffSubject, startBy}
+use Rattle.fewest.specs.Threads.{predicate-first, object-first, predicate-next, object-next, free, FirstWith, Threaded, predicateOf, objectOf, ThreadsFrom, Threads, Blank, Headed, OffSubject, startBy}
 use Rattle.fewest.proofs.Decoded.{cells-long}
 
 -- the threads stand in the table, and a cell can hold each triple's number and one that is none
@@ -28,7 +29,7 @@ headed-long headed = rw (headed .stored) (simp length-set)
 
 module _ {key : ℕ → ℕ} {n : ℕ} where
   -- the triple before, which has another key, is not the first
-  first-down : {t k j : ℕ} → key k ≢ t → First key n t (suc k) j → First key n t k j
+  first-down : {t k j : ℕ} → key k ≢ t → FirstWith key n t (suc k) j → FirstWith key n t k j
   first-down {t} {k} {j} other f = record {
     own = λ h. let (l, e) = f .own h in (omega arith, e);
     least = λ i l h e. elim (ℕ-discrete k i) [
@@ -71,7 +72,7 @@ module _ {key : ℕ → ℕ} {n : ℕ} where
         was : ℕ
         was = getD C (at-first + t) 0
 
-        first : (u : ℕ) → u < terms → First key n u k (getD D (at-first + u) 0)
+        first : (u : ℕ) → u < terms → FirstWith key n u k (getD D (at-first + u) 0)
         first u l = elim (ℕ-discrete t u) [
           | yes e ↦
               rw (headed .stored, ← e, getD-set-same (set C (at-next + k) was) (at-first + t) k 0 (simp length-set (omega arith)))
@@ -85,7 +86,7 @@ module _ {key : ℕ → ℕ} {n : ℕ} where
               (first-down (λ f. e (own ∙ f)) (old .first u l))
         ]
 
-        next : (i : ℕ) → k ≤ i → i < n → First key n (key i) (suc i) (getD D (at-next + i) 0)
+        next : (i : ℕ) → k ≤ i → i < n → FirstWith key n (key i) (suc i) (getD D (at-next + i) 0)
         next i l m =
             rw (headed .stored, getD-set-other (set C (at-next + k) was) (at-first + t) (at-next + i) k 0 (λ f. absurd (omega arith)))
             (elim (ℕ-discrete k i) [
@@ -135,14 +136,14 @@ threads-one b X Y {C} {D} {n} {k} {s} {p} {o} good h long small ep eo subject pr
 -- The threads that an axis starts along: the objects', by two axes.
 pub along-objects : (b X : List ℕ) {n axis : ℕ} → (axis ≡ 2) ⊎ (axis ≡ 6) → Threads b n X →
     Threaded (startBy axis (siteOf b n)) n object-first object-next (cells X) 0
-unfolding startBy
+unfolding axisNumbered
 along-objects b X (inl e) threads = rw e (threads .objects)
 along-objects b X (inr e) threads = rw e (threads .objects)
 
 -- The predicates', by the other two that do not start at the subject.
 pub along-predicates : (b X : List ℕ) {n : ℕ} (axis : ℕ) → OffSubject axis → axis ≢ 2 → axis ≢ 6 → Threads b n X →
     Threaded (startBy axis (siteOf b n)) n predicate-first predicate-next (cells X) 0
-unfolding startBy
+unfolding axisNumbered
 along-predicates b X zero off e f threads = absurd (off .moving refl)
 along-predicates b X (suc zero) off e f threads = absurd (off .not-next refl)
 along-predicates b X (suc (suc zero)) off e f threads = absurd (e refl)
@@ -154,14 +155,14 @@ along-predicates b X (suc (suc (suc (suc (suc (suc (suc a))))))) off e f threads
 
 module _ {key : ℕ → ℕ} {n at-first at-next : ℕ} {C : List ℕ} (threaded : Threaded key n at-first at-next C 0) where
   -- What stands in a term's cell is its first triple.
-  pub read-first : {t p r : ℕ} → t < terms → p ≡ at-first + t → r ≡ getD C p 0 → First key n t 0 r
+  pub read-first : {t p r : ℕ} → t < terms → p ≡ at-first + t → r ≡ getD C p 0 → FirstWith key n t 0 r
   read-first {t} h place read = rw (read, place) (threaded .first t h)
 
   -- What stands in a triple's cell is the next, which is a later one.
-  pub read-next : {t k p r j : ℕ} → k < n → key k ≡ t → p ≡ at-next + k → r ≡ getD C p 0 → (k < r → j ≡ r) → First key n t (suc k) j
+  pub read-next : {t k p r j : ℕ} → k < n → key k ≡ t → p ≡ at-next + k → r ≡ getD C p 0 → (k < r → j ≡ r) → FirstWith key n t (suc k) j
   read-next {t} {k} {p} {r} {j} h own place read later = rw (later up, ← own) next
     where
-      next : First key n (key k) (suc k) r
+      next : FirstWith key n (key k) (suc k) r
       next = rw (read, place) (threaded .next k zero-le h)
 
       up : k < r

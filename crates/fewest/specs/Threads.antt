@@ -3,14 +3,13 @@
 use Prim.Native.Nat.{ℕ, suc, _+_, _*_, _<_, _≤_}
 use mathlib.Core.Path.{_≡_}
 use mathlib.Core.Logic.{_≢_}
-use mathlib.Core.Bool.{cond}
 use mathlib.Core.List.{List}
 use lib.ListN.{length, getD, set}
-use lib.Dec.{eqb}
 use Rattle.meaning.specs.Limits.{terms, triples, records}
-use Rattle.meaning.specs.Site.{Site, triple}
+use Rattle.meaning.specs.Site.{Triple, Site, triple}
+use Rattle.meaning.specs.Move.{start, finish, Axis, self, ahead, inverse}
 use Rattle.records.specs.Sites.{Accepted, siteOf}
-use Rattle.records.specs.Rules.{lastAxis}
+use Rattle.records.specs.Rules.{lastAxis, axisNumbered}
 use Rattle.fewest.specs.Cells.{cells, nothing}
 
 -- where the first triples stand, by predicate and by object, and where the next ones do; the first by subject stand before
@@ -31,14 +30,14 @@ abbrev pub free : ℕ
 free = object-next + triples
 
 -- j is the first triple from number k on, of n, whose key is t; n or more where there is none
-pub record First (key : ℕ → ℕ) (n t k j : ℕ) : Type 0 where
+pub record FirstWith (key : ℕ → ℕ) (n t k j : ℕ) : Type 0 where
   pub own : j < n → (k ≤ j) × (key j ≡ t)
   pub least : (i : ℕ) → k ≤ i → i < n → key i ≡ t → j ≤ i
 
 -- of n triples those from number k on are threaded by this key, in cells from these two places on
 pub record Threaded (key : ℕ → ℕ) (n at-first at-next : ℕ) (C : List ℕ) (k : ℕ) : Type 0 where
-  pub first : (t : ℕ) → t < terms → First key n t k (getD C (at-first + t) 0)
-  pub next : (i : ℕ) → k ≤ i → i < n → First key n (key i) (suc i) (getD C (at-next + i) 0)
+  pub first : (t : ℕ) → t < terms → FirstWith key n t k (getD C (at-first + t) 0)
+  pub next : (i : ℕ) → k ≤ i → i < n → FirstWith key n (key i) (suc i) (getD C (at-next + i) 0)
 
 abbrev pub predicateOf : List ℕ → ℕ → ℕ → ℕ
 predicateOf b n j = triple (siteOf b n) j .predicate
@@ -74,22 +73,22 @@ pub record OffSubject (axis : ℕ) : Type 0 where
   pub not-edge : axis ≢ 3
   pub known : axis ≤ lastAxis
 
--- where triple j starts by the axis
-unfoldable pub startBy : ℕ → Site → ℕ → ℕ
-startBy axis s j =
-    cond (eqb axis 1) (triple s j .subject)
-    (cond (eqb axis 2) (triple s j .object)
-    (cond (eqb axis 3) (triple s j .subject)
-    (cond (eqb axis 4) (triple s j .predicate)
-    (cond (eqb axis 5) (triple s j .predicate)
-    (triple s j .object)))))
+-- where a triple starts along an axis; staying takes none
+abbrev pub startAlong : Axis → Triple → ℕ
+startAlong self x = x .subject
+startAlong (ahead d) x = start d x
+startAlong (inverse d) x = finish d x
+
+-- where triple j starts by the axis with this number
+abbrev pub startBy : ℕ → Site → ℕ → ℕ
+startBy axis s j = startAlong (axisNumbered axis) (triple s j)
 
 -- by threads the first triple that starts at t
-abbrev pub FirstFrom : List ℕ → (axis t j : ℕ) → Type 0
-FirstFrom X axis t j =
-    (b : List ℕ) (n : ℕ) → Threads b n X → OffSubject axis → t < terms → First (startBy axis (siteOf b n)) n t 0 j
+abbrev pub ThreadFirst : List ℕ → (axis t j : ℕ) → Type 0
+ThreadFirst X axis t j =
+    (b : List ℕ) (n : ℕ) → Threads b n X → OffSubject axis → t < terms → FirstWith (startBy axis (siteOf b n)) n t 0 j
 
 -- a later triple than k; by threads the next that starts at t, where k does
-pub record NextFrom (b : List ℕ) (n : ℕ) (X : List ℕ) (axis t k j : ℕ) : Type 0 where
+pub record ThreadNext (b : List ℕ) (n : ℕ) (X : List ℕ) (axis t k j : ℕ) : Type 0 where
   pub later : k < j
-  pub next : Threads b n X → OffSubject axis → startBy axis (siteOf b n) k ≡ t → First (startBy axis (siteOf b n)) n t (suc k) j
+  pub next : Threads b n X → OffSubject axis → startBy axis (siteOf b n) k ≡ t → FirstWith (startBy axis (siteOf b n)) n t (suc k) j

@@ -13,7 +13,7 @@ ghost use Rattle.meaning.specs.Limits.{terms, records};
 ghost use Rattle.records.specs.Sites.{Accepted};
 ghost use Rattle.fewest.specs.Cells.{values, cells};
 ghost use Rattle.fewest.specs.Work.{Has};
-ghost use Rattle.fewest.specs.Threads.{Blank, Headed, ThreadedOne, Threads, FirstFrom, NextFrom};
+ghost use Rattle.fewest.specs.Threads.{Blank, Headed, ThreadedOne, Threads, ThreadFirst, ThreadNext};
 
 // Where the first triples and the next ones stand; what is behind them is free.
 const SUBJECT: usize = 0;
@@ -80,7 +80,7 @@ pub fn thread(site: &[u8], triples: usize, scratch: &mut [u8])
 
 // The first triple by which an axis leads from t, and the first by which it leads to t.
 pub fn first_from(scratch: &[u8], axis: usize, t: usize) -> usize
-    ensures { λ j. ⌜ FirstFrom (now (scratch .entry)) axis t j ⌝ }
+    ensures { λ j. ⌜ ThreadFirst (now (scratch .entry)) axis t j ⌝ }
 {
     match axis {
         1 => cell(scratch, SUBJECT + t % TERMS),
@@ -117,7 +117,7 @@ pub fn next_from(
     k: usize,
 ) -> usize
     requires { ⌜ Accepted (now site) triples × (k < triples) ⌝ }
-    ensures { λ j. ⌜ NextFrom (now (site .entry)) triples (now (scratch .entry)) axis t k j ⌝ }
+    ensures { λ j. ⌜ ThreadNext (now (site .entry)) triples (now (scratch .entry)) axis t k j ⌝ }
 {
     match axis {
         1 => same_subject(site, triples, t, k),

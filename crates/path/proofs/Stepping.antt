@@ -1,6 +1,6 @@
 -- The smallest step of one record: one move is tried, and a record's triples in their order.
 -- What was passed offers nothing, so the first that is found is the smallest.
-use Prim.Native.Nat.{ℕ, zero, suc, _<_, _≤_}
+use Prim.Native.Nat.{ℕ, _<_, _≤_}
 use mathlib.Core.Path.{_≡_, refl, sym, subst, _∙_}
 use mathlib.Core.Logic.{_≢_, inr}
 use mathlib.Core.Bool.{Bool, true, false}
@@ -12,19 +12,19 @@ use lib.Dec.{eqb}
 use borrow.Author.Tests.{eqb-true, eqb-false}
 use Rattle.meaning.specs.Limits as limits
 use Rattle.meaning.specs.Site.{Site, triple}
-use Rattle.meaning.specs.Move.{Direction, start, finish, Axis, self, ahead, inverse, any, Move, going, coming}
+use Rattle.meaning.specs.Move.{Axis, self, ahead, inverse, any, Move, going, coming}
 use Rattle.meaning.specs.Expression.{Rec, starring}
 use Rattle.meaning.specs.Fewest.{Goal}
 use Rattle.records.specs.declared.Label.{Label}
 use Rattle.records.specs.Sites.{siteOf}
-use Rattle.records.specs.Rules.{lastAxis, axisNumbered, labelled}
+use Rattle.records.specs.Rules.{axisNumbered, labelled}
 use Rattle.records.specs.Find.{FirstFrom, subjectAt}
-use Rattle.records.proofs.Sites.{length-siteOf, triple-siteOf}
+use Rattle.records.proofs.Sites.{length-siteOf}
 use Rattle.records.proofs.Halving.{Rising, none-before, none-after}
 use Rattle.fewest.specs.declared.look.Moved.{Moved}
 use Rattle.fewest.specs.Frame.{Frame, frame}
 use Rattle.fewest.specs.Work.{Least, allowing}
-use Rattle.fewest.specs.Threads.{First, OffSubject, startBy}
+use Rattle.fewest.specs.Threads.{FirstWith, OffSubject, startAlong, startBy}
 use Rattle.fewest.proofs.Axes as axes
 use Rattle.path.specs.declared.Taken.{Taken}
 use Rattle.path.specs.declared.Pick.the-variants.{Step, Nothing}
@@ -133,26 +133,14 @@ module _ {s : Site} {up role : List ℕ} {g : Goal} {T : List ℕ} {a : Axis} (g
           elim (decLt j k) [ yes i ↦ idle j i | no i ↦ other-idle (none-after first-from rises h other (omega arith) below) ]
 
 -- Each move along an axis starts where its triple does.
-starts-ahead : {s : Site} {d : Direction} {k t m u : ℕ} → Move s (ahead d) any k t m u → t ≡ start d (triple s k)
-starts-ahead (going x _) = x .starts
-
-starts-inverse : {s : Site} {d : Direction} {k t m u : ℕ} → Move s (inverse d) any k t m u → t ≡ finish d (triple s k)
-starts-inverse (coming x _) = x .ends
-
-starts-by : (s : Site) (k t m u a : ℕ) → a ≢ 0 → a ≤ lastAxis → Move s (axisNumbered a) any k t m u → t ≡ startBy a s k
-unfolding axisNumbered startBy
-starts-by s k t m u zero e l x = absurd (e refl)
-starts-by s k t m u (suc zero) e l x = starts-ahead x
-starts-by s k t m u (suc (suc zero)) e l x = starts-inverse x
-starts-by s k t m u (suc (suc (suc zero))) e l x = starts-ahead x
-starts-by s k t m u (suc (suc (suc (suc zero)))) e l x = starts-inverse x
-starts-by s k t m u (suc (suc (suc (suc (suc zero))))) e l x = starts-ahead x
-starts-by s k t m u (suc (suc (suc (suc (suc (suc zero)))))) e l x = starts-inverse x
-starts-by s k t m u (suc (suc (suc (suc (suc (suc (suc a))))))) e l x = absurd (omega arith)
+starts-along : {s : Site} {k t m u : ℕ} (a : Axis) → a ≢ self → Move s a any k t m u → t ≡ startAlong a (triple s k)
+starts-along self e x = absurd (e refl)
+starts-along (ahead d) e (going x _) = x .starts
+starts-along (inverse d) e (coming x _) = x .ends
 
 -- Where the triples are threaded by their start, what stands between one of a thread and the next offers nothing.
 module _ (b : List ℕ) {n axis : ℕ} {up role : List ℕ} {g : Goal} {T : List ℕ} (off : OffSubject axis) (l : Label) (r t d : ℕ) where
-  pub thread-idle : {k j : ℕ} → First (startBy axis (siteOf b n)) n t k j →
+  pub thread-idle : {k j : ℕ} → FirstWith (startBy axis (siteOf b n)) n t k j →
       ((i : ℕ) → i < k → Idle (frame (siteOf b n) up role g) T (axisNumbered axis) l r t d i) →
       (i : ℕ) → i < j → Idle (frame (siteOf b n) up role g) T (axisNumbered axis) l r t d i
   thread-idle {k} {j} first idle i h rs e u x = elim (decLt i k) [
@@ -160,6 +148,6 @@ module _ (b : List ℕ) {n axis : ℕ} {up role : List ℕ} {g : Goal} {T : List
     | no late ↦
         let (_, move, _) = carries-move (by-triples axis (off .moving)) l e (x .0) in
         let inside : i < n = rw (length-siteOf b n) at (below (by-triples axis (off .moving)) move) in
-        let least = first .least i (omega arith) inside (sym (starts-by (siteOf b n) i t _ _ axis (off .moving) (off .known) move)) in
+        let least = first .least i (omega arith) inside (sym (starts-along (axisNumbered axis) (by-triples axis (off .moving)) move)) in
         omega arith
   ]

@@ -16,7 +16,8 @@ use Rattle.records.specs.Sites.{tripleWidth, tripleOf, inCode, siteOf, Accepted
 use Rattle.records.specs.Find.{FirstFrom, subjectAt}
 use Rattle.records.proofs.Sites.{length-siteOf, read-siteOf}
 use Rattle.records.proofs.Halving.{none-before, none-after, accepted-rises}
-use Rattle.fewest.specs.Threads.{First, OffSubject, startBy}
+use Rattle.records.specs.Rules.{axisNumbered}
+use Rattle.fewest.specs.Threads.{FirstWith, OffSubject, startBy}
 use Rattle.path.specs.Tells.{Tells, holds, fails}
 use Rattle.path.specs.Words.{StandsAs}
 use Rattle.path.proofs.Telling.{told, told-not}
@@ -52,9 +53,9 @@ module _ (b : List ℕ) {n t first : ℕ} (found : FirstFrom (subjectAt (siteOf 
 pub object-off : OffSubject 2
 object-off = record { moving = λ e. omega arith; not-next = λ e. omega arith; not-edge = λ e. omega arith; known = omega arith }
 
-pub object-tells : (b : List ℕ) {n t first : ℕ} → First (startBy 2 (siteOf b n)) n t 0 first →
+pub object-tells : (b : List ℕ) {n t first : ℕ} → FirstWith (startBy 2 (siteOf b n)) n t 0 first →
     Tells (StandsAs (λ x. x .object) (siteOf b n) t) (ltb first n)
-unfolding startBy
+unfolding axisNumbered
 object-tells b {n} {t} {first} found = go (ltb first n) refl
   where
     go : (d : Bool) → ltb first n ≡ d → Tells (StandsAs (λ x. x .object) (siteOf b n) t) d
