@@ -202,7 +202,8 @@ fn fill_in<'a>(
     )
 }
 
-// The entries at t of all records of the expression of record r, in the order second operand, first operand, record.
+// The entries at t of those records of the expression of record r that may end with a star, in the order second operand, first
+// operand, record: where the expression may be finished, such a star may pass empty.
 fn fill_within<'a>(
     site: &[u8],
     triples: usize,
@@ -225,21 +226,24 @@ fn fill_within<'a>(
     let end = place_of(hints, r) % RECORDS + 1;
     let mut i = less(end, size_of(hints, r));
     while i < end {
-        fill_in(
-            site,
-            triples,
-            rule,
-            starts,
-            count,
-            up,
-            role,
-            first,
-            goal,
-            numbers,
-            record_in(hints, i),
-            t,
-            k,
-        );
+        let q = record_in(hints, i);
+        if ends_in_star(hints, q) {
+            fill_in(
+                site,
+                triples,
+                rule,
+                starts,
+                count,
+                up,
+                role,
+                first,
+                goal,
+                numbers,
+                q,
+                t,
+                k,
+            );
+        }
         i += 1;
     }
 }
@@ -260,50 +264,15 @@ fn finished_by(rec: Record, first: usize, at: usize) -> usize {
     }
 }
 
-// Where the expression of record r may be finished at t, a star that it ends with may pass empty there.
-fn pass_empty<'a>(
-    site: &[u8],
-    triples: usize,
-    rule: &[u8],
-    starts: &[u8; RECORDS],
-    count: usize,
-    up: &'a [u8; RECORDS],
-    role: &'a [u8; RECORDS],
-    first: &'a [u8; RECORDS],
-    goal: Goal,
-    numbers: &mut [u8],
-    hints: &[u16],
-    r: usize,
-    t: usize,
-    k: usize,
-)
-    requires { ⌜ Ready (now site) triples (now rule) (now starts) count (now up) (now role) (now first) × Full (now numbers) × (t < terms) ⌝ }
-    ensures { λ _. ⌜ Hinted (now (site .entry)) triples (now (rule .entry)) (now (up .entry)) (now (role .entry)) (now (first .entry)) (goalOf goal) (now (numbers .entry)) (now (numbers .exit)) ⌝ }
-{
+// The expression of record r, if that is one, may end with a star, which may pass empty at a term that stands in triple k.
+fn passes(hints: &[u16], r: usize, triples: usize, k: usize) -> bool {
     if RECORDS <= r {
-        return;
+        return false;
     }
     if triples <= k {
-        return;
+        return false;
     }
-    if ends_in_star(hints, r) {
-        fill_within(
-            site,
-            triples,
-            rule,
-            starts,
-            count,
-            up,
-            role,
-            first,
-            goal,
-            numbers,
-            hints,
-            r,
-            t,
-            k,
-        );
-    }
+    ends_in_star(hints, r)
 }
 
 // The entry of `at` at t is new: what may be finished there passes empty, and the record above takes the entry if it is lower.
@@ -332,22 +301,25 @@ fn climb_one<'a>(
     }
     let rec = record_of(rule, starts, above);
     let operand = first[above] as usize;
-    pass_empty(
-        site,
-        triples,
-        rule,
-        starts,
-        count,
-        up,
-        role,
-        first,
-        goal,
-        numbers,
-        hints,
-        finished_by(rec, operand, at),
-        t,
-        k,
-    );
+    let done = finished_by(rec, operand, at);
+    if passes(hints, done, triples, k) {
+        fill_within(
+            site,
+            triples,
+            rule,
+            starts,
+            count,
+            up,
+            role,
+            first,
+            goal,
+            numbers,
+            hints,
+            done,
+            t,
+            k,
+        );
+    }
     column(
         site,
         triples,
@@ -455,26 +427,6 @@ fn possible_one<'a>(
     0
 }
 
-// Outside the vocabulary, where t stands in no triple k, a star does not pass empty: only possible steps are open there.
-fn openable<'a>(
-    triples: usize,
-    up: &'a [u8; RECORDS],
-    role: &'a [u8; RECORDS],
-    goal: Goal,
-    numbers: &[u8],
-    steps: &[u8; RECORDS],
-    set: usize,
-    t: usize,
-    k: usize,
-) -> usize
-    requires { ⌜ Full (now numbers) × Climbs records (now up) (now role) × (t < terms) ⌝ }
-{
-    if k < triples {
-        return set;
-    }
-    possible(up, role, goal, numbers, steps, set, t)
-}
-
 // These steps are open at t at the level of this side, but for those that were open before. The length of the level.
 fn open(scratch: &mut [u8], side: usize, len: usize, set: usize, t: usize) -> usize
     requires { ⌜ t < terms ⌝ }
@@ -538,17 +490,11 @@ fn rise<'a>(
         t,
         k,
     );
-    let set = openable(
-        triples,
-        up,
-        role,
-        goal,
-        numbers,
-        steps,
-        before(hints, r),
-        t,
-        k,
-    );
+    let all = before(hints, r);
+    if k < triples {
+        return open(scratch, side, len, all, t);
+    }
+    let set = possible(up, role, goal, numbers, steps, all, t);
     open(scratch, side, len, set, t)
 }
 
@@ -1002,34 +948,30 @@ fn begin<'a>(
     ensures { λ _. ⌜ Hinted (now (site .entry)) triples (now (rule .entry)) (now (up .entry)) (now (role .entry)) (now (first .entry)) (goalOf goal) (now (numbers .entry)) (now (numbers .exit)) ⌝ }
 {
     let k = witness(scratch, t);
-    pass_empty(
-        site,
-        triples,
-        rule,
-        starts,
-        count,
-        up,
-        role,
-        first,
-        goal,
-        numbers,
-        hints,
-        b,
-        t,
-        k,
-    );
-    let set = openable(
-        triples,
-        up,
-        role,
-        goal,
-        numbers,
-        steps,
-        last_in(hints, b),
-        t,
-        k,
-    );
-    open(scratch, 0, len, set, t)
+    let all = last_in(hints, b);
+    if triples <= k {
+        let set = possible(up, role, goal, numbers, steps, all, t);
+        return open(scratch, 0, len, set, t);
+    }
+    if ends_in_star(hints, b) {
+        fill_within(
+            site,
+            triples,
+            rule,
+            starts,
+            count,
+            up,
+            role,
+            first,
+            goal,
+            numbers,
+            hints,
+            b,
+            t,
+            k,
+        );
+    }
+    open(scratch, 0, len, all, t)
 }
 
 // A body that ends with a star may finish at t: there the star may pass empty, and what may be last is not opened again. Outside
@@ -1057,7 +999,7 @@ fn finish_at<'a>(
     if triples <= k {
         return;
     }
-    pass_empty(
+    fill_within(
         site,
         triples,
         rule,
