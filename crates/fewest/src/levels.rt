@@ -1,6 +1,8 @@
 // The number table by levels: from the finish of each body, the innermost body first, one step more at each level. What is stored
 // is offered by the table; where to look is a hint from scratch, and the sweep that follows certifies that nothing is missing.
 use crate::Goal;
+use crate::cells::byte_at;
+use crate::cells::put_byte;
 use crate::cells::put_set;
 use crate::cells::set_at;
 use crate::left::left;
@@ -11,8 +13,9 @@ use crate::look::allows;
 use crate::look::move_at;
 use crate::look::parts_of;
 use crate::look::rest;
-use crate::pairs::wide;
-use crate::sets::HINTS;
+use crate::sets::DONE;
+use crate::sets::LIST;
+use crate::sets::OPEN;
 use crate::sets::before;
 use crate::sets::befores;
 use crate::sets::ends_in_star;
@@ -26,10 +29,10 @@ use crate::sets::record_in;
 use crate::sets::root_of;
 use crate::sets::size_of;
 use crate::sets::sizes;
+use crate::sets::step_of;
 use crate::sweep::sweep_axis;
 use crate::table::lower;
 use crate::table::number;
-use crate::threads::FREE;
 use crate::threads::first_to;
 use crate::threads::inverse;
 use crate::threads::next_from;
@@ -55,13 +58,6 @@ ghost use Rattle.fewest.specs.Frame.{Climbs, frame};
 ghost use Rattle.fewest.specs.Offer.{Lowers};
 ghost use Rattle.fewest.specs.Table.{Full};
 ghost use Rattle.fewest.specs.Work.{goalOf, Tests, workOf, partsOf, Sits, Ready, Stayed, RecordWorked, Reached, Stepping, Hinted};
-
-// In scratch behind the threads: for two levels by turns, which steps are open at a term; which ever were; the terms of both.
-const OPEN: usize = FREE;
-
-const DONE: usize = OPEN + TERMS + TERMS;
-
-const LIST: usize = DONE + TERMS;
 
 // Staying at t for record r, where t stands in triple k.
 fn stay<'a>(
@@ -214,8 +210,8 @@ fn fill_within<'a>(
     role: &'a [u8; RECORDS],
     first: &'a [u8; RECORDS],
     goal: Goal,
+    scratch: &[u8],
     numbers: &mut [u8],
-    hints: &[u16],
     r: usize,
     t: usize,
     k: usize,
@@ -223,11 +219,11 @@ fn fill_within<'a>(
     requires { ⌜ Ready (now site) triples (now rule) (now starts) count (now up) (now role) (now first) × Full (now numbers) × (t < terms) ⌝ }
     ensures { λ _. ⌜ Hinted (now (site .entry)) triples (now (rule .entry)) (now (up .entry)) (now (role .entry)) (now (first .entry)) (goalOf goal) (now (numbers .entry)) (now (numbers .exit)) ⌝ }
 {
-    let end = place_of(hints, r) % RECORDS + 1;
-    let mut i = less(end, size_of(hints, r));
+    let end = place_of(scratch, r) % RECORDS + 1;
+    let mut i = less(end, size_of(scratch, r));
     while i < end {
-        let q = record_in(hints, i);
-        if ends_in_star(hints, q) {
+        let q = record_in(scratch, i);
+        if ends_in_star(scratch, q) {
             fill_in(
                 site,
                 triples,
@@ -265,14 +261,14 @@ fn finished_by(rec: Record, first: usize, at: usize) -> usize {
 }
 
 // The expression of record r, if that is one, may end with a star, which may pass empty at a term that stands in triple k.
-fn passes(hints: &[u16], r: usize, triples: usize, k: usize) -> bool {
+fn passes(scratch: &[u8], r: usize, triples: usize, k: usize) -> bool {
     if RECORDS <= r {
         return false;
     }
     if triples <= k {
         return false;
     }
-    ends_in_star(hints, r)
+    ends_in_star(scratch, r)
 }
 
 // The entry of `at` at t is new: what may be finished there passes empty, and the record above takes the entry if it is lower.
@@ -286,8 +282,8 @@ fn climb_one<'a>(
     role: &'a [u8; RECORDS],
     first: &'a [u8; RECORDS],
     goal: Goal,
+    scratch: &[u8],
     numbers: &mut [u8],
-    hints: &[u16],
     at: usize,
     above: usize,
     t: usize,
@@ -302,7 +298,7 @@ fn climb_one<'a>(
     let rec = record_of(rule, starts, above);
     let operand = first[above] as usize;
     let done = finished_by(rec, operand, at);
-    if passes(hints, done, triples, k) {
+    if passes(scratch, done, triples, k) {
         fill_within(
             site,
             triples,
@@ -313,8 +309,8 @@ fn climb_one<'a>(
             role,
             first,
             goal,
+            scratch,
             numbers,
-            hints,
             done,
             t,
             k,
@@ -346,8 +342,8 @@ fn climb<'a>(
     role: &'a [u8; RECORDS],
     first: &'a [u8; RECORDS],
     goal: Goal,
+    scratch: &[u8],
     numbers: &mut [u8],
-    hints: &[u16],
     r: usize,
     t: usize,
     k: usize,
@@ -357,7 +353,7 @@ fn climb<'a>(
 {
     let mut at = r;
     loop {
-        let above = parent_of(hints, at);
+        let above = parent_of(scratch, at);
         if above <= at {
             return;
         }
@@ -371,8 +367,8 @@ fn climb<'a>(
             role,
             first,
             goal,
+            scratch,
             numbers,
-            hints,
             at,
             above,
             t,
@@ -389,8 +385,8 @@ fn possible<'a>(
     up: &'a [u8; RECORDS],
     role: &'a [u8; RECORDS],
     goal: Goal,
+    scratch: &[u8],
     numbers: &[u8],
-    steps: &[u8; RECORDS],
     set: usize,
     t: usize,
 ) -> usize
@@ -401,7 +397,8 @@ fn possible<'a>(
     while rest != 0 {
         let bit = usize::trailing_zeros(rest) as usize % RECORDS;
         rest = rest & (rest - 1);
-        got = got | possible_one(up, role, goal, numbers, wide(steps[bit]), bit, t);
+        let r = step_of(scratch, bit);
+        got = got | possible_one(up, role, goal, numbers, r, bit, t);
     }
     got
 }
@@ -416,11 +413,8 @@ fn possible_one<'a>(
     bit: usize,
     t: usize,
 ) -> usize
-    requires { ⌜ Full (now numbers) × Climbs records (now up) (now role) × (bit < records) × (t < terms) ⌝ }
+    requires { ⌜ Full (now numbers) × Climbs records (now up) (now role) × (r < records) × (bit < records) × (t < terms) ⌝ }
 {
-    if RECORDS <= r {
-        return 0;
-    }
     if left(numbers, up, role, goal, r, t) < NONE {
         return 1usize << bit;
     }
@@ -446,7 +440,7 @@ fn open(scratch: &mut [u8], side: usize, len: usize, set: usize, t: usize) -> us
     if TERMS <= len {
         return len;
     }
-    put_set(scratch, LIST + side % 2 * TERMS + len, t);
+    put_byte(scratch, LIST + LIST + side % 2 * TERMS + len, t);
     len + 1
 }
 
@@ -463,8 +457,6 @@ fn rise<'a>(
     goal: Goal,
     scratch: &mut [u8],
     numbers: &mut [u8],
-    hints: &[u16],
-    steps: &[u8; RECORDS],
     r: usize,
     t: usize,
     side: usize,
@@ -484,17 +476,17 @@ fn rise<'a>(
         role,
         first,
         goal,
+        scratch,
         numbers,
-        hints,
         r,
         t,
         k,
     );
-    let all = before(hints, r);
+    let all = before(scratch, r);
     if k < triples {
         return open(scratch, side, len, all, t);
     }
-    let set = possible(up, role, goal, numbers, steps, all, t);
+    let set = possible(up, role, goal, scratch, numbers, all, t);
     open(scratch, side, len, set, t)
 }
 
@@ -534,8 +526,6 @@ fn take<'a>(
     goal: Goal,
     scratch: &mut [u8],
     numbers: &mut [u8],
-    hints: &[u16],
-    steps: &[u8; RECORDS],
     step: Step,
     parts: Parts,
     r: usize,
@@ -562,8 +552,6 @@ fn take<'a>(
             goal,
             scratch,
             numbers,
-            hints,
-            steps,
             r,
             t,
             side,
@@ -586,8 +574,6 @@ fn take_all<'a>(
     goal: Goal,
     scratch: &mut [u8],
     numbers: &mut [u8],
-    hints: &[u16],
-    steps: &[u8; RECORDS],
     step: Step,
     r: usize,
     u: usize,
@@ -614,8 +600,6 @@ fn take_all<'a>(
             goal,
             scratch,
             numbers,
-            hints,
-            steps,
             step,
             parts,
             r,
@@ -666,8 +650,6 @@ fn take_step<'a>(
     goal: Goal,
     scratch: &mut [u8],
     numbers: &mut [u8],
-    hints: &[u16],
-    steps: &[u8; RECORDS],
     step: Step,
     r: usize,
     u: usize,
@@ -690,8 +672,6 @@ fn take_step<'a>(
             goal,
             scratch,
             numbers,
-            hints,
-            steps,
             step,
             r,
             u,
@@ -714,8 +694,6 @@ fn take_step<'a>(
             goal,
             scratch,
             numbers,
-            hints,
-            steps,
             r,
             u,
             side,
@@ -738,8 +716,6 @@ fn take_record<'a>(
     goal: Goal,
     scratch: &mut [u8],
     numbers: &mut [u8],
-    hints: &[u16],
-    steps: &[u8; RECORDS],
     r: usize,
     u: usize,
     side: usize,
@@ -764,8 +740,6 @@ fn take_record<'a>(
             goal,
             scratch,
             numbers,
-            hints,
-            steps,
             step,
             r,
             u,
@@ -791,8 +765,6 @@ fn take_set<'a>(
     goal: Goal,
     scratch: &mut [u8],
     numbers: &mut [u8],
-    hints: &[u16],
-    steps: &[u8; RECORDS],
     set: usize,
     u: usize,
     side: usize,
@@ -818,9 +790,7 @@ fn take_set<'a>(
             goal,
             scratch,
             numbers,
-            hints,
-            steps,
-            wide(steps[bit]),
+            step_of(scratch, bit),
             u,
             side,
             len,
@@ -842,8 +812,6 @@ fn take_term<'a>(
     goal: Goal,
     scratch: &mut [u8],
     numbers: &mut [u8],
-    hints: &[u16],
-    steps: &[u8; RECORDS],
     u: usize,
     side: usize,
     len: usize,
@@ -868,8 +836,6 @@ fn take_term<'a>(
         goal,
         scratch,
         numbers,
-        hints,
-        steps,
         set,
         u,
         side % 2 + 1,
@@ -890,8 +856,6 @@ fn level<'a>(
     goal: Goal,
     scratch: &mut [u8],
     numbers: &mut [u8],
-    hints: &[u16],
-    steps: &[u8; RECORDS],
     side: usize,
     len: usize,
 ) -> usize
@@ -901,7 +865,7 @@ fn level<'a>(
     let mut next = 0;
     let mut i = 0;
     while i < len {
-        let u = set_at(scratch, LIST + side % 2 * TERMS + i % TERMS);
+        let u = byte_at(scratch, LIST + LIST + side % 2 * TERMS + i % TERMS);
         next = take_term(
             site,
             triples,
@@ -914,8 +878,6 @@ fn level<'a>(
             goal,
             scratch,
             numbers,
-            hints,
-            steps,
             u,
             side,
             next,
@@ -938,8 +900,6 @@ fn begin<'a>(
     goal: Goal,
     scratch: &mut [u8],
     numbers: &mut [u8],
-    hints: &[u16],
-    steps: &[u8; RECORDS],
     b: usize,
     t: usize,
     len: usize,
@@ -948,12 +908,12 @@ fn begin<'a>(
     ensures { λ _. ⌜ Hinted (now (site .entry)) triples (now (rule .entry)) (now (up .entry)) (now (role .entry)) (now (first .entry)) (goalOf goal) (now (numbers .entry)) (now (numbers .exit)) ⌝ }
 {
     let k = witness(scratch, t);
-    let all = last_in(hints, b);
+    let all = last_in(scratch, b);
     if triples <= k {
-        let set = possible(up, role, goal, numbers, steps, all, t);
+        let set = possible(up, role, goal, scratch, numbers, all, t);
         return open(scratch, 0, len, set, t);
     }
-    if ends_in_star(hints, b) {
+    if ends_in_star(scratch, b) {
         fill_within(
             site,
             triples,
@@ -964,8 +924,8 @@ fn begin<'a>(
             role,
             first,
             goal,
+            scratch,
             numbers,
-            hints,
             b,
             t,
             k,
@@ -988,7 +948,6 @@ fn finish_at<'a>(
     goal: Goal,
     scratch: &mut [u8],
     numbers: &mut [u8],
-    hints: &[u16],
     b: usize,
     t: usize,
 )
@@ -1009,13 +968,13 @@ fn finish_at<'a>(
         role,
         first,
         goal,
+        scratch,
         numbers,
-        hints,
         b,
         t,
         k,
     );
-    put_set(scratch, DONE + t, last_in(hints, b));
+    put_set(scratch, DONE + t, last_in(scratch, b));
 }
 
 // That at each term.
@@ -1031,7 +990,6 @@ fn finish_all<'a>(
     goal: Goal,
     scratch: &mut [u8],
     numbers: &mut [u8],
-    hints: &[u16],
     b: usize,
 )
     requires { ⌜ Ready (now site) triples (now rule) (now starts) count (now up) (now role) (now first) × Full (now numbers) ⌝ }
@@ -1051,7 +1009,6 @@ fn finish_all<'a>(
             goal,
             scratch,
             numbers,
-            hints,
             b,
             t,
         );
@@ -1081,13 +1038,12 @@ fn finish<'a>(
     goal: Goal,
     scratch: &mut [u8],
     numbers: &mut [u8],
-    hints: &[u16],
     b: usize,
 )
     requires { ⌜ Ready (now site) triples (now rule) (now starts) count (now up) (now role) (now first) × Full (now numbers) ⌝ }
     ensures { λ _. ⌜ Hinted (now (site .entry)) triples (now (rule .entry)) (now (up .entry)) (now (role .entry)) (now (first .entry)) (goalOf goal) (now (numbers .entry)) (now (numbers .exit)) ⌝ }
 {
-    if ends_in_star(hints, b) {
+    if ends_in_star(scratch, b) {
         finish_all(
             site,
             triples,
@@ -1100,12 +1056,11 @@ fn finish<'a>(
             goal,
             scratch,
             numbers,
-            hints,
             b,
         );
         return;
     }
-    close_all(scratch, last_in(hints, b));
+    close_all(scratch, last_in(scratch, b));
 }
 
 // A self step of record r at each term.
@@ -1211,8 +1166,6 @@ fn rise_if<'a>(
     goal: Goal,
     scratch: &mut [u8],
     numbers: &mut [u8],
-    hints: &[u16],
-    steps: &[u8; RECORDS],
     r: usize,
     t: usize,
     len: usize,
@@ -1233,8 +1186,6 @@ fn rise_if<'a>(
             goal,
             scratch,
             numbers,
-            hints,
-            steps,
             r,
             t,
             0,
@@ -1257,17 +1208,12 @@ fn rise_all<'a>(
     goal: Goal,
     scratch: &mut [u8],
     numbers: &mut [u8],
-    hints: &[u16],
-    steps: &[u8; RECORDS],
     r: usize,
     was: usize,
 ) -> usize
-    requires { ⌜ Ready (now site) triples (now rule) (now starts) count (now up) (now role) (now first) × Full (now numbers) ⌝ }
+    requires { ⌜ Ready (now site) triples (now rule) (now starts) count (now up) (now role) (now first) × Full (now numbers) × (r < records) ⌝ }
     ensures { λ _. ⌜ Hinted (now (site .entry)) triples (now (rule .entry)) (now (up .entry)) (now (role .entry)) (now (first .entry)) (goalOf goal) (now (numbers .entry)) (now (numbers .exit)) ⌝ }
 {
-    if RECORDS <= r {
-        return was;
-    }
     let mut len = was;
     let mut t = 0;
     while t < TERMS {
@@ -1283,8 +1229,6 @@ fn rise_all<'a>(
             goal,
             scratch,
             numbers,
-            hints,
-            steps,
             r,
             t,
             len,
@@ -1307,8 +1251,6 @@ fn begin_all<'a>(
     goal: Goal,
     scratch: &mut [u8],
     numbers: &mut [u8],
-    hints: &[u16],
-    steps: &[u8; RECORDS],
     b: usize,
 ) -> usize
     requires { ⌜ Ready (now site) triples (now rule) (now starts) count (now up) (now role) (now first) × Full (now numbers) ⌝ }
@@ -1326,15 +1268,14 @@ fn begin_all<'a>(
         goal,
         scratch,
         numbers,
-        hints,
         b,
     );
     let mut len = 0;
-    let mut rest = last_in(hints, b);
+    let mut rest = last_in(scratch, b);
     while rest != 0 {
         let bit = usize::trailing_zeros(rest) as usize % RECORDS;
         rest = rest & (rest - 1);
-        let r = wide(steps[bit]);
+        let r = step_of(scratch, bit);
         sweep_if(
             site,
             triples,
@@ -1361,8 +1302,6 @@ fn begin_all<'a>(
             goal,
             scratch,
             numbers,
-            hints,
-            steps,
             r,
             len,
         );
@@ -1383,8 +1322,6 @@ fn begin_body<'a>(
     goal: Goal,
     scratch: &mut [u8],
     numbers: &mut [u8],
-    hints: &[u16],
-    steps: &[u8; RECORDS],
     b: usize,
 ) -> usize
     requires { ⌜ Ready (now site) triples (now rule) (now starts) count (now up) (now role) (now first) × Full (now numbers) × (b < records) ⌝ }
@@ -1404,8 +1341,6 @@ fn begin_body<'a>(
                 goal,
                 scratch,
                 numbers,
-                hints,
-                steps,
                 b,
                 end,
             );
@@ -1423,8 +1358,6 @@ fn begin_body<'a>(
         goal,
         scratch,
         numbers,
-        hints,
-        steps,
         b,
     )
 }
@@ -1442,8 +1375,6 @@ fn begin_if<'a>(
     goal: Goal,
     scratch: &mut [u8],
     numbers: &mut [u8],
-    hints: &[u16],
-    steps: &[u8; RECORDS],
     b: usize,
     end: usize,
 ) -> usize
@@ -1465,8 +1396,6 @@ fn begin_if<'a>(
         goal,
         scratch,
         numbers,
-        hints,
-        steps,
         b,
         end,
         0,
@@ -1497,8 +1426,6 @@ fn run_levels<'a>(
     goal: Goal,
     scratch: &mut [u8],
     numbers: &mut [u8],
-    hints: &[u16],
-    steps: &[u8; RECORDS],
     begun: usize,
 )
     requires { ⌜ Ready (now site) triples (now rule) (now starts) count (now up) (now role) (now first) × Full (now numbers) ⌝ }
@@ -1522,8 +1449,6 @@ fn run_levels<'a>(
             goal,
             scratch,
             numbers,
-            hints,
-            steps,
             side,
             len,
         );
@@ -1537,14 +1462,12 @@ fn prepare<'a>(
     starts: &[u8; RECORDS],
     first: &'a [u8; RECORDS],
     scratch: &mut [u8],
-    hints: &mut [u16],
-    steps: &mut [u8; RECORDS],
     b: usize,
 )
     requires { ⌜ b < records ⌝ }
 {
-    lasts(rule, starts, first, b, steps, hints);
-    befores(rule, starts, first, b, hints);
+    lasts(rule, starts, first, b, scratch);
+    befores(rule, starts, first, b, scratch);
     shut_all(scratch);
 }
 
@@ -1561,14 +1484,12 @@ fn search<'a>(
     goal: Goal,
     scratch: &mut [u8],
     numbers: &mut [u8],
-    hints: &mut [u16],
-    steps: &mut [u8; RECORDS],
     b: usize,
 )
     requires { ⌜ Ready (now site) triples (now rule) (now starts) count (now up) (now role) (now first) × Full (now numbers) × (b < records) ⌝ }
     ensures { λ _. ⌜ Hinted (now (site .entry)) triples (now (rule .entry)) (now (up .entry)) (now (role .entry)) (now (first .entry)) (goalOf goal) (now (numbers .entry)) (now (numbers .exit)) ⌝ }
 {
-    prepare(rule, starts, first, scratch, hints, steps, b);
+    prepare(rule, starts, first, scratch, b);
     let begun = begin_body(
         site,
         triples,
@@ -1581,8 +1502,6 @@ fn search<'a>(
         goal,
         scratch,
         numbers,
-        hints,
-        steps,
         b,
     );
     run_levels(
@@ -1597,8 +1516,6 @@ fn search<'a>(
         goal,
         scratch,
         numbers,
-        hints,
-        steps,
         begun,
     )
 }
@@ -1616,14 +1533,12 @@ fn search_if<'a>(
     goal: Goal,
     scratch: &mut [u8],
     numbers: &mut [u8],
-    hints: &mut [u16],
-    steps: &mut [u8; RECORDS],
     b: usize,
 )
     requires { ⌜ Ready (now site) triples (now rule) (now starts) count (now up) (now role) (now first) × Full (now numbers) × (b < records) ⌝ }
     ensures { λ _. ⌜ Hinted (now (site .entry)) triples (now (rule .entry)) (now (up .entry)) (now (role .entry)) (now (first .entry)) (goalOf goal) (now (numbers .entry)) (now (numbers .exit)) ⌝ }
 {
-    if root_of(hints, b) == b {
+    if root_of(scratch, b) == b {
         search(
             site,
             triples,
@@ -1636,8 +1551,6 @@ fn search_if<'a>(
             goal,
             scratch,
             numbers,
-            hints,
-            steps,
             b,
         );
     }
@@ -1656,8 +1569,6 @@ fn search_all<'a>(
     goal: Goal,
     scratch: &mut [u8],
     numbers: &mut [u8],
-    hints: &mut [u16],
-    steps: &mut [u8; RECORDS],
 )
     requires { ⌜ Ready (now site) triples (now rule) (now starts) count (now up) (now role) (now first) × Full (now numbers) ⌝ }
     ensures { λ _. ⌜ Hinted (now (site .entry)) triples (now (rule .entry)) (now (up .entry)) (now (role .entry)) (now (first .entry)) (goalOf goal) (now (numbers .entry)) (now (numbers .exit)) ⌝ }
@@ -1679,8 +1590,6 @@ fn search_all<'a>(
             goal,
             scratch,
             numbers,
-            hints,
-            steps,
             b,
         );
         b += 1;
@@ -1704,11 +1613,9 @@ pub fn levels<'a>(
     requires { ⌜ Ready (now site) triples (now rule) (now starts) count (now up) (now role) (now first) × Full (now numbers) ⌝ }
     ensures { λ _. ⌜ Hinted (now (site .entry)) triples (now (rule .entry)) (now (up .entry)) (now (role .entry)) (now (first .entry)) (goalOf goal) (now (numbers .entry)) (now (numbers .exit)) ⌝ }
 {
-    let mut hints = [0u16; HINTS];
-    let mut steps = [0u8; RECORDS];
     thread(site, triples, scratch);
-    sizes(rule, starts, count, first, &mut hints);
-    orders(rule, starts, count, first, &mut hints);
+    sizes(rule, starts, count, first, scratch);
+    orders(rule, starts, count, first, scratch);
     search_all(
         site,
         triples,
@@ -1721,7 +1628,5 @@ pub fn levels<'a>(
         goal,
         scratch,
         numbers,
-        &mut hints,
-        &mut steps,
     )
 }

@@ -13,7 +13,7 @@ last-in-requires : tie.Need-last-in-requires
 last-in-requires c κs = search needs
 
 possible-requires : tie.Need-possible-requires
-possible-requires c κs = let pre = c .before .before .before .before .before .before .before .before .before .before .pre in (pre .1, pre .0 .climbs, pre .2)
+possible-requires c κs = let pre = c .before .before .before .before .before .before .before .before .before .before .before .pre in (pre .1, pre .0 .climbs, pre .2)
 
 open-requires : tie.Need-open-requires
 open-requires c κs = search needs
@@ -35,9 +35,9 @@ fill-within-requires c κs = search needs
 
 -- the body has passed empty, or may not
 passed : (c : tie.Joined2) →
-    let args = c .before .before .before .before .before .before .before .before .before .before .before .args in
+    let args = c .before .before .before .before .before .before .before .before .before .before .before .before .args in
     Hinted (args .site .now) (args .triples) (args .rule .now) (args .up .now) (args .role .now) (args .first .now) (goalOf (args .goal)) (args .numbers .now) (c .if2 .numbers)
-passed c = ⊎-elim (λ w. rw (w .5) (w .2 .ensures)) (λ w. rw (w .1) hinted-none) (c .if2 .came)
+passed c = ⊎-elim (λ w. rw (w .6) (w .3 .ensures)) (λ w. rw (w .1) hinted-none) (c .if2 .came)
 
 open-requires-2 : tie.Need-open-requires-2
 open-requires-2 c κs = search needs

@@ -10,11 +10,11 @@ use Rattle.fewest.proofs.levels.fill_within.Statement.{statement}
 use Rattle.fewest.proofs.levels.fill_within.Tie as tie
 
 abbrev Inv-loop : tie.InvT-loop
-Inv-loop site triples rule starts count up role first goal numbers₀ hints r t k end i₀ numbers i =
+Inv-loop site triples rule starts count up role first goal scratch numbers₀ r t k end i₀ numbers i =
     Hinted site triples rule up role first (goalOf goal) numbers₀ numbers
 
 abbrev μ-loop : tie.MeasureT-loop
-μ-loop site triples rule starts count up role first goal numbers₀ hints r t k end i₀ numbers i = end - i
+μ-loop site triples rule starts count up role first goal scratch numbers₀ r t k end i₀ numbers i = end - i
 
 place-of-requires : tie.Need-place-of-requires Inv-loop μ-loop
 place-of-requires c κs = search needs

@@ -27,7 +27,7 @@ returns c = search needs
 
 possible-requires : tie.Need-possible-requires
 possible-requires c κs =
-    let after-climb = c .before .before .before .before .before in
+    let after-climb = c .before .before .before .before .before .before .before in
     let pre = after-climb .before .before .before .before .before .before .before .before .before .pre in
     (hinted-full (after-climb .climb .ensures) (pre .1), pre .0 .climbs, pre .3)
 
