@@ -14,7 +14,7 @@ ghost use Rattle.fewest.specs.Cells.{values, cells};
 pub const CELL: usize = HALF * HALF;
 
 // A cell's whole bytes are a number below this: a set of 16 bits.
-pub const SETS: usize = BASE * BASE;
+const SETS: usize = BASE * BASE;
 
 // Six bits of a byte, above its two low ones.
 const HALF: usize = 64;
@@ -76,4 +76,19 @@ pub fn put_set(scratch: &mut [u8], i: usize, set: usize) {
         return;
     }
     put(scratch, i, set % SETS);
+}
+
+// A byte for itself, as the terms of a list stand.
+pub fn byte_at(scratch: &[u8], i: usize) -> usize {
+    if scratch.len() <= i {
+        return 0;
+    }
+    wide(scratch[i])
+}
+
+pub fn put_byte(scratch: &mut [u8], i: usize, v: usize) {
+    if scratch.len() <= i {
+        return;
+    }
+    scratch[i] = (v % BASE) as u8;
 }

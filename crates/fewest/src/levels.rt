@@ -1,6 +1,8 @@
 // The number table by levels: from the finish of each body, the innermost body first, one step more at each level. What is stored
 // is offered by the table; where to look is a hint from scratch, and the sweep that follows certifies that nothing is missing.
 use crate::Goal;
+use crate::cells::byte_at;
+use crate::cells::put_byte;
 use crate::cells::put_set;
 use crate::cells::set_at;
 use crate::left::left;
@@ -11,8 +13,9 @@ use crate::look::allows;
 use crate::look::move_at;
 use crate::look::parts_of;
 use crate::look::rest;
-use crate::pairs::wide;
-use crate::sets::HINTS;
+use crate::sets::DONE;
+use crate::sets::LIST;
+use crate::sets::OPEN;
 use crate::sets::before;
 use crate::sets::befores;
 use crate::sets::ends_in_star;
@@ -26,10 +29,10 @@ use crate::sets::record_in;
 use crate::sets::root_of;
 use crate::sets::size_of;
 use crate::sets::sizes;
+use crate::sets::step_of;
 use crate::sweep::sweep_axis;
 use crate::table::lower;
 use crate::table::number;
-use crate::threads::FREE;
 use crate::threads::first_to;
 use crate::threads::inverse;
 use crate::threads::next_from;
@@ -55,13 +58,6 @@ ghost use Rattle.fewest.specs.Frame.{Climbs, frame};
 ghost use Rattle.fewest.specs.Offer.{Lowers};
 ghost use Rattle.fewest.specs.Table.{Full};
 ghost use Rattle.fewest.specs.Work.{goalOf, Tests, workOf, partsOf, Sits, Ready, Stayed, RecordWorked, Reached, Stepping, Hinted};
-
-// In scratch behind the threads: for two levels by turns, which steps are open at a term; which ever were; the terms of both.
-const OPEN: usize = FREE;
-
-const DONE: usize = OPEN + TERMS + TERMS;
-
-const LIST: usize = DONE + TERMS;
 
 // Staying at t for record r, where t stands in triple k.
 fn stay<'a>(
@@ -202,7 +198,8 @@ fn fill_in<'a>(
     )
 }
 
-// The entries at t of all records of the expression of record r, in the order second operand, first operand, record.
+// The entries at t of those records of the expression of record r that may end with a star, in the order second operand, first
+// operand, record: where the expression may be finished, such a star may pass empty.
 fn fill_within<'a>(
     site: &[u8],
     triples: usize,
@@ -213,8 +210,8 @@ fn fill_within<'a>(
     role: &'a [u8; RECORDS],
     first: &'a [u8; RECORDS],
     goal: Goal,
+    scratch: &[u8],
     numbers: &mut [u8],
-    hints: &[u16],
     r: usize,
     t: usize,
     k: usize,
@@ -222,24 +219,27 @@ fn fill_within<'a>(
     requires { ⌜ Ready (now site) triples (now rule) (now starts) count (now up) (now role) (now first) × Full (now numbers) × (t < terms) ⌝ }
     ensures { λ _. ⌜ Hinted (now (site .entry)) triples (now (rule .entry)) (now (up .entry)) (now (role .entry)) (now (first .entry)) (goalOf goal) (now (numbers .entry)) (now (numbers .exit)) ⌝ }
 {
-    let end = place_of(hints, r) % RECORDS + 1;
-    let mut i = less(end, size_of(hints, r));
+    let end = place_of(scratch, r) % RECORDS + 1;
+    let mut i = less(end, size_of(scratch, r));
     while i < end {
-        fill_in(
-            site,
-            triples,
-            rule,
-            starts,
-            count,
-            up,
-            role,
-            first,
-            goal,
-            numbers,
-            record_in(hints, i),
-            t,
-            k,
-        );
+        let q = record_in(scratch, i);
+        if ends_in_star(scratch, q) {
+            fill_in(
+                site,
+                triples,
+                rule,
+                starts,
+                count,
+                up,
+                role,
+                first,
+                goal,
+                numbers,
+                q,
+                t,
+                k,
+            );
+        }
         i += 1;
     }
 }
@@ -260,50 +260,15 @@ fn finished_by(rec: Record, first: usize, at: usize) -> usize {
     }
 }
 
-// Where the expression of record r may be finished at t, a star that it ends with may pass empty there.
-fn pass_empty<'a>(
-    site: &[u8],
-    triples: usize,
-    rule: &[u8],
-    starts: &[u8; RECORDS],
-    count: usize,
-    up: &'a [u8; RECORDS],
-    role: &'a [u8; RECORDS],
-    first: &'a [u8; RECORDS],
-    goal: Goal,
-    numbers: &mut [u8],
-    hints: &[u16],
-    r: usize,
-    t: usize,
-    k: usize,
-)
-    requires { ⌜ Ready (now site) triples (now rule) (now starts) count (now up) (now role) (now first) × Full (now numbers) × (t < terms) ⌝ }
-    ensures { λ _. ⌜ Hinted (now (site .entry)) triples (now (rule .entry)) (now (up .entry)) (now (role .entry)) (now (first .entry)) (goalOf goal) (now (numbers .entry)) (now (numbers .exit)) ⌝ }
-{
+// The expression of record r, if that is one, may end with a star, which may pass empty at a term that stands in triple k.
+fn passes(scratch: &[u8], r: usize, triples: usize, k: usize) -> bool {
     if RECORDS <= r {
-        return;
+        return false;
     }
     if triples <= k {
-        return;
+        return false;
     }
-    if ends_in_star(hints, r) {
-        fill_within(
-            site,
-            triples,
-            rule,
-            starts,
-            count,
-            up,
-            role,
-            first,
-            goal,
-            numbers,
-            hints,
-            r,
-            t,
-            k,
-        );
-    }
+    ends_in_star(scratch, r)
 }
 
 // The entry of `at` at t is new: what may be finished there passes empty, and the record above takes the entry if it is lower.
@@ -317,8 +282,8 @@ fn climb_one<'a>(
     role: &'a [u8; RECORDS],
     first: &'a [u8; RECORDS],
     goal: Goal,
+    scratch: &[u8],
     numbers: &mut [u8],
-    hints: &[u16],
     at: usize,
     above: usize,
     t: usize,
@@ -332,22 +297,25 @@ fn climb_one<'a>(
     }
     let rec = record_of(rule, starts, above);
     let operand = first[above] as usize;
-    pass_empty(
-        site,
-        triples,
-        rule,
-        starts,
-        count,
-        up,
-        role,
-        first,
-        goal,
-        numbers,
-        hints,
-        finished_by(rec, operand, at),
-        t,
-        k,
-    );
+    let done = finished_by(rec, operand, at);
+    if passes(scratch, done, triples, k) {
+        fill_within(
+            site,
+            triples,
+            rule,
+            starts,
+            count,
+            up,
+            role,
+            first,
+            goal,
+            scratch,
+            numbers,
+            done,
+            t,
+            k,
+        );
+    }
     column(
         site,
         triples,
@@ -374,8 +342,8 @@ fn climb<'a>(
     role: &'a [u8; RECORDS],
     first: &'a [u8; RECORDS],
     goal: Goal,
+    scratch: &[u8],
     numbers: &mut [u8],
-    hints: &[u16],
     r: usize,
     t: usize,
     k: usize,
@@ -385,7 +353,7 @@ fn climb<'a>(
 {
     let mut at = r;
     loop {
-        let above = parent_of(hints, at);
+        let above = parent_of(scratch, at);
         if above <= at {
             return;
         }
@@ -399,8 +367,8 @@ fn climb<'a>(
             role,
             first,
             goal,
+            scratch,
             numbers,
-            hints,
             at,
             above,
             t,
@@ -417,8 +385,8 @@ fn possible<'a>(
     up: &'a [u8; RECORDS],
     role: &'a [u8; RECORDS],
     goal: Goal,
+    scratch: &[u8],
     numbers: &[u8],
-    steps: &[u8; RECORDS],
     set: usize,
     t: usize,
 ) -> usize
@@ -429,7 +397,8 @@ fn possible<'a>(
     while rest != 0 {
         let bit = usize::trailing_zeros(rest) as usize % RECORDS;
         rest = rest & (rest - 1);
-        got = got | possible_one(up, role, goal, numbers, wide(steps[bit]), bit, t);
+        let r = step_of(scratch, bit);
+        got = got | possible_one(up, role, goal, numbers, r, bit, t);
     }
     got
 }
@@ -444,35 +413,12 @@ fn possible_one<'a>(
     bit: usize,
     t: usize,
 ) -> usize
-    requires { ⌜ Full (now numbers) × Climbs records (now up) (now role) × (bit < records) × (t < terms) ⌝ }
+    requires { ⌜ Full (now numbers) × Climbs records (now up) (now role) × (r < records) × (bit < records) × (t < terms) ⌝ }
 {
-    if RECORDS <= r {
-        return 0;
-    }
     if left(numbers, up, role, goal, r, t) < NONE {
         return 1usize << bit;
     }
     0
-}
-
-// Outside the vocabulary, where t stands in no triple k, a star does not pass empty: only possible steps are open there.
-fn openable<'a>(
-    triples: usize,
-    up: &'a [u8; RECORDS],
-    role: &'a [u8; RECORDS],
-    goal: Goal,
-    numbers: &[u8],
-    steps: &[u8; RECORDS],
-    set: usize,
-    t: usize,
-    k: usize,
-) -> usize
-    requires { ⌜ Full (now numbers) × Climbs records (now up) (now role) × (t < terms) ⌝ }
-{
-    if k < triples {
-        return set;
-    }
-    possible(up, role, goal, numbers, steps, set, t)
 }
 
 // These steps are open at t at the level of this side, but for those that were open before. The length of the level.
@@ -494,7 +440,7 @@ fn open(scratch: &mut [u8], side: usize, len: usize, set: usize, t: usize) -> us
     if TERMS <= len {
         return len;
     }
-    put_set(scratch, LIST + side % 2 * TERMS + len, t);
+    put_byte(scratch, LIST + LIST + side % 2 * TERMS + len, t);
     len + 1
 }
 
@@ -511,8 +457,6 @@ fn rise<'a>(
     goal: Goal,
     scratch: &mut [u8],
     numbers: &mut [u8],
-    hints: &[u16],
-    steps: &[u8; RECORDS],
     r: usize,
     t: usize,
     side: usize,
@@ -532,23 +476,17 @@ fn rise<'a>(
         role,
         first,
         goal,
+        scratch,
         numbers,
-        hints,
         r,
         t,
         k,
     );
-    let set = openable(
-        triples,
-        up,
-        role,
-        goal,
-        numbers,
-        steps,
-        before(hints, r),
-        t,
-        k,
-    );
+    let all = before(scratch, r);
+    if k < triples {
+        return open(scratch, side, len, all, t);
+    }
+    let set = possible(up, role, goal, scratch, numbers, all, t);
     open(scratch, side, len, set, t)
 }
 
@@ -588,8 +526,6 @@ fn take<'a>(
     goal: Goal,
     scratch: &mut [u8],
     numbers: &mut [u8],
-    hints: &[u16],
-    steps: &[u8; RECORDS],
     step: Step,
     parts: Parts,
     r: usize,
@@ -616,8 +552,6 @@ fn take<'a>(
             goal,
             scratch,
             numbers,
-            hints,
-            steps,
             r,
             t,
             side,
@@ -640,8 +574,6 @@ fn take_all<'a>(
     goal: Goal,
     scratch: &mut [u8],
     numbers: &mut [u8],
-    hints: &[u16],
-    steps: &[u8; RECORDS],
     step: Step,
     r: usize,
     u: usize,
@@ -668,8 +600,6 @@ fn take_all<'a>(
             goal,
             scratch,
             numbers,
-            hints,
-            steps,
             step,
             parts,
             r,
@@ -720,8 +650,6 @@ fn take_step<'a>(
     goal: Goal,
     scratch: &mut [u8],
     numbers: &mut [u8],
-    hints: &[u16],
-    steps: &[u8; RECORDS],
     step: Step,
     r: usize,
     u: usize,
@@ -744,8 +672,6 @@ fn take_step<'a>(
             goal,
             scratch,
             numbers,
-            hints,
-            steps,
             step,
             r,
             u,
@@ -768,8 +694,6 @@ fn take_step<'a>(
             goal,
             scratch,
             numbers,
-            hints,
-            steps,
             r,
             u,
             side,
@@ -792,8 +716,6 @@ fn take_record<'a>(
     goal: Goal,
     scratch: &mut [u8],
     numbers: &mut [u8],
-    hints: &[u16],
-    steps: &[u8; RECORDS],
     r: usize,
     u: usize,
     side: usize,
@@ -818,8 +740,6 @@ fn take_record<'a>(
             goal,
             scratch,
             numbers,
-            hints,
-            steps,
             step,
             r,
             u,
@@ -845,8 +765,6 @@ fn take_set<'a>(
     goal: Goal,
     scratch: &mut [u8],
     numbers: &mut [u8],
-    hints: &[u16],
-    steps: &[u8; RECORDS],
     set: usize,
     u: usize,
     side: usize,
@@ -872,9 +790,7 @@ fn take_set<'a>(
             goal,
             scratch,
             numbers,
-            hints,
-            steps,
-            wide(steps[bit]),
+            step_of(scratch, bit),
             u,
             side,
             len,
@@ -896,8 +812,6 @@ fn take_term<'a>(
     goal: Goal,
     scratch: &mut [u8],
     numbers: &mut [u8],
-    hints: &[u16],
-    steps: &[u8; RECORDS],
     u: usize,
     side: usize,
     len: usize,
@@ -922,8 +836,6 @@ fn take_term<'a>(
         goal,
         scratch,
         numbers,
-        hints,
-        steps,
         set,
         u,
         side % 2 + 1,
@@ -944,8 +856,6 @@ fn level<'a>(
     goal: Goal,
     scratch: &mut [u8],
     numbers: &mut [u8],
-    hints: &[u16],
-    steps: &[u8; RECORDS],
     side: usize,
     len: usize,
 ) -> usize
@@ -955,7 +865,7 @@ fn level<'a>(
     let mut next = 0;
     let mut i = 0;
     while i < len {
-        let u = set_at(scratch, LIST + side % 2 * TERMS + i % TERMS);
+        let u = byte_at(scratch, LIST + LIST + side % 2 * TERMS + i % TERMS);
         next = take_term(
             site,
             triples,
@@ -968,8 +878,6 @@ fn level<'a>(
             goal,
             scratch,
             numbers,
-            hints,
-            steps,
             u,
             side,
             next,
@@ -992,8 +900,6 @@ fn begin<'a>(
     goal: Goal,
     scratch: &mut [u8],
     numbers: &mut [u8],
-    hints: &[u16],
-    steps: &[u8; RECORDS],
     b: usize,
     t: usize,
     len: usize,
@@ -1002,34 +908,30 @@ fn begin<'a>(
     ensures { λ _. ⌜ Hinted (now (site .entry)) triples (now (rule .entry)) (now (up .entry)) (now (role .entry)) (now (first .entry)) (goalOf goal) (now (numbers .entry)) (now (numbers .exit)) ⌝ }
 {
     let k = witness(scratch, t);
-    pass_empty(
-        site,
-        triples,
-        rule,
-        starts,
-        count,
-        up,
-        role,
-        first,
-        goal,
-        numbers,
-        hints,
-        b,
-        t,
-        k,
-    );
-    let set = openable(
-        triples,
-        up,
-        role,
-        goal,
-        numbers,
-        steps,
-        last_in(hints, b),
-        t,
-        k,
-    );
-    open(scratch, 0, len, set, t)
+    let all = last_in(scratch, b);
+    if triples <= k {
+        let set = possible(up, role, goal, scratch, numbers, all, t);
+        return open(scratch, 0, len, set, t);
+    }
+    if ends_in_star(scratch, b) {
+        fill_within(
+            site,
+            triples,
+            rule,
+            starts,
+            count,
+            up,
+            role,
+            first,
+            goal,
+            scratch,
+            numbers,
+            b,
+            t,
+            k,
+        );
+    }
+    open(scratch, 0, len, all, t)
 }
 
 // A body that ends with a star may finish at t: there the star may pass empty, and what may be last is not opened again. Outside
@@ -1046,7 +948,6 @@ fn finish_at<'a>(
     goal: Goal,
     scratch: &mut [u8],
     numbers: &mut [u8],
-    hints: &[u16],
     b: usize,
     t: usize,
 )
@@ -1057,7 +958,7 @@ fn finish_at<'a>(
     if triples <= k {
         return;
     }
-    pass_empty(
+    fill_within(
         site,
         triples,
         rule,
@@ -1067,13 +968,13 @@ fn finish_at<'a>(
         role,
         first,
         goal,
+        scratch,
         numbers,
-        hints,
         b,
         t,
         k,
     );
-    put_set(scratch, DONE + t, last_in(hints, b));
+    put_set(scratch, DONE + t, last_in(scratch, b));
 }
 
 // That at each term.
@@ -1089,7 +990,6 @@ fn finish_all<'a>(
     goal: Goal,
     scratch: &mut [u8],
     numbers: &mut [u8],
-    hints: &[u16],
     b: usize,
 )
     requires { ⌜ Ready (now site) triples (now rule) (now starts) count (now up) (now role) (now first) × Full (now numbers) ⌝ }
@@ -1109,7 +1009,6 @@ fn finish_all<'a>(
             goal,
             scratch,
             numbers,
-            hints,
             b,
             t,
         );
@@ -1139,13 +1038,12 @@ fn finish<'a>(
     goal: Goal,
     scratch: &mut [u8],
     numbers: &mut [u8],
-    hints: &[u16],
     b: usize,
 )
     requires { ⌜ Ready (now site) triples (now rule) (now starts) count (now up) (now role) (now first) × Full (now numbers) ⌝ }
     ensures { λ _. ⌜ Hinted (now (site .entry)) triples (now (rule .entry)) (now (up .entry)) (now (role .entry)) (now (first .entry)) (goalOf goal) (now (numbers .entry)) (now (numbers .exit)) ⌝ }
 {
-    if ends_in_star(hints, b) {
+    if ends_in_star(scratch, b) {
         finish_all(
             site,
             triples,
@@ -1158,12 +1056,11 @@ fn finish<'a>(
             goal,
             scratch,
             numbers,
-            hints,
             b,
         );
         return;
     }
-    close_all(scratch, last_in(hints, b));
+    close_all(scratch, last_in(scratch, b));
 }
 
 // A self step of record r at each term.
@@ -1269,8 +1166,6 @@ fn rise_if<'a>(
     goal: Goal,
     scratch: &mut [u8],
     numbers: &mut [u8],
-    hints: &[u16],
-    steps: &[u8; RECORDS],
     r: usize,
     t: usize,
     len: usize,
@@ -1291,8 +1186,6 @@ fn rise_if<'a>(
             goal,
             scratch,
             numbers,
-            hints,
-            steps,
             r,
             t,
             0,
@@ -1315,17 +1208,12 @@ fn rise_all<'a>(
     goal: Goal,
     scratch: &mut [u8],
     numbers: &mut [u8],
-    hints: &[u16],
-    steps: &[u8; RECORDS],
     r: usize,
     was: usize,
 ) -> usize
-    requires { ⌜ Ready (now site) triples (now rule) (now starts) count (now up) (now role) (now first) × Full (now numbers) ⌝ }
+    requires { ⌜ Ready (now site) triples (now rule) (now starts) count (now up) (now role) (now first) × Full (now numbers) × (r < records) ⌝ }
     ensures { λ _. ⌜ Hinted (now (site .entry)) triples (now (rule .entry)) (now (up .entry)) (now (role .entry)) (now (first .entry)) (goalOf goal) (now (numbers .entry)) (now (numbers .exit)) ⌝ }
 {
-    if RECORDS <= r {
-        return was;
-    }
     let mut len = was;
     let mut t = 0;
     while t < TERMS {
@@ -1341,8 +1229,6 @@ fn rise_all<'a>(
             goal,
             scratch,
             numbers,
-            hints,
-            steps,
             r,
             t,
             len,
@@ -1365,8 +1251,6 @@ fn begin_all<'a>(
     goal: Goal,
     scratch: &mut [u8],
     numbers: &mut [u8],
-    hints: &[u16],
-    steps: &[u8; RECORDS],
     b: usize,
 ) -> usize
     requires { ⌜ Ready (now site) triples (now rule) (now starts) count (now up) (now role) (now first) × Full (now numbers) ⌝ }
@@ -1384,15 +1268,14 @@ fn begin_all<'a>(
         goal,
         scratch,
         numbers,
-        hints,
         b,
     );
     let mut len = 0;
-    let mut rest = last_in(hints, b);
+    let mut rest = last_in(scratch, b);
     while rest != 0 {
         let bit = usize::trailing_zeros(rest) as usize % RECORDS;
         rest = rest & (rest - 1);
-        let r = wide(steps[bit]);
+        let r = step_of(scratch, bit);
         sweep_if(
             site,
             triples,
@@ -1419,8 +1302,6 @@ fn begin_all<'a>(
             goal,
             scratch,
             numbers,
-            hints,
-            steps,
             r,
             len,
         );
@@ -1441,8 +1322,6 @@ fn begin_body<'a>(
     goal: Goal,
     scratch: &mut [u8],
     numbers: &mut [u8],
-    hints: &[u16],
-    steps: &[u8; RECORDS],
     b: usize,
 ) -> usize
     requires { ⌜ Ready (now site) triples (now rule) (now starts) count (now up) (now role) (now first) × Full (now numbers) × (b < records) ⌝ }
@@ -1462,8 +1341,6 @@ fn begin_body<'a>(
                 goal,
                 scratch,
                 numbers,
-                hints,
-                steps,
                 b,
                 end,
             );
@@ -1481,8 +1358,6 @@ fn begin_body<'a>(
         goal,
         scratch,
         numbers,
-        hints,
-        steps,
         b,
     )
 }
@@ -1500,8 +1375,6 @@ fn begin_if<'a>(
     goal: Goal,
     scratch: &mut [u8],
     numbers: &mut [u8],
-    hints: &[u16],
-    steps: &[u8; RECORDS],
     b: usize,
     end: usize,
 ) -> usize
@@ -1523,8 +1396,6 @@ fn begin_if<'a>(
         goal,
         scratch,
         numbers,
-        hints,
-        steps,
         b,
         end,
         0,
@@ -1555,8 +1426,6 @@ fn run_levels<'a>(
     goal: Goal,
     scratch: &mut [u8],
     numbers: &mut [u8],
-    hints: &[u16],
-    steps: &[u8; RECORDS],
     begun: usize,
 )
     requires { ⌜ Ready (now site) triples (now rule) (now starts) count (now up) (now role) (now first) × Full (now numbers) ⌝ }
@@ -1580,8 +1449,6 @@ fn run_levels<'a>(
             goal,
             scratch,
             numbers,
-            hints,
-            steps,
             side,
             len,
         );
@@ -1595,14 +1462,12 @@ fn prepare<'a>(
     starts: &[u8; RECORDS],
     first: &'a [u8; RECORDS],
     scratch: &mut [u8],
-    hints: &mut [u16],
-    steps: &mut [u8; RECORDS],
     b: usize,
 )
     requires { ⌜ b < records ⌝ }
 {
-    lasts(rule, starts, first, b, steps, hints);
-    befores(rule, starts, first, b, hints);
+    lasts(rule, starts, first, b, scratch);
+    befores(rule, starts, first, b, scratch);
     shut_all(scratch);
 }
 
@@ -1619,14 +1484,12 @@ fn search<'a>(
     goal: Goal,
     scratch: &mut [u8],
     numbers: &mut [u8],
-    hints: &mut [u16],
-    steps: &mut [u8; RECORDS],
     b: usize,
 )
     requires { ⌜ Ready (now site) triples (now rule) (now starts) count (now up) (now role) (now first) × Full (now numbers) × (b < records) ⌝ }
     ensures { λ _. ⌜ Hinted (now (site .entry)) triples (now (rule .entry)) (now (up .entry)) (now (role .entry)) (now (first .entry)) (goalOf goal) (now (numbers .entry)) (now (numbers .exit)) ⌝ }
 {
-    prepare(rule, starts, first, scratch, hints, steps, b);
+    prepare(rule, starts, first, scratch, b);
     let begun = begin_body(
         site,
         triples,
@@ -1639,8 +1502,6 @@ fn search<'a>(
         goal,
         scratch,
         numbers,
-        hints,
-        steps,
         b,
     );
     run_levels(
@@ -1655,8 +1516,6 @@ fn search<'a>(
         goal,
         scratch,
         numbers,
-        hints,
-        steps,
         begun,
     )
 }
@@ -1674,14 +1533,12 @@ fn search_if<'a>(
     goal: Goal,
     scratch: &mut [u8],
     numbers: &mut [u8],
-    hints: &mut [u16],
-    steps: &mut [u8; RECORDS],
     b: usize,
 )
     requires { ⌜ Ready (now site) triples (now rule) (now starts) count (now up) (now role) (now first) × Full (now numbers) × (b < records) ⌝ }
     ensures { λ _. ⌜ Hinted (now (site .entry)) triples (now (rule .entry)) (now (up .entry)) (now (role .entry)) (now (first .entry)) (goalOf goal) (now (numbers .entry)) (now (numbers .exit)) ⌝ }
 {
-    if root_of(hints, b) == b {
+    if root_of(scratch, b) == b {
         search(
             site,
             triples,
@@ -1694,8 +1551,6 @@ fn search_if<'a>(
             goal,
             scratch,
             numbers,
-            hints,
-            steps,
             b,
         );
     }
@@ -1714,8 +1569,6 @@ fn search_all<'a>(
     goal: Goal,
     scratch: &mut [u8],
     numbers: &mut [u8],
-    hints: &mut [u16],
-    steps: &mut [u8; RECORDS],
 )
     requires { ⌜ Ready (now site) triples (now rule) (now starts) count (now up) (now role) (now first) × Full (now numbers) ⌝ }
     ensures { λ _. ⌜ Hinted (now (site .entry)) triples (now (rule .entry)) (now (up .entry)) (now (role .entry)) (now (first .entry)) (goalOf goal) (now (numbers .entry)) (now (numbers .exit)) ⌝ }
@@ -1737,8 +1590,6 @@ fn search_all<'a>(
             goal,
             scratch,
             numbers,
-            hints,
-            steps,
             b,
         );
         b += 1;
@@ -1762,11 +1613,9 @@ pub fn levels<'a>(
     requires { ⌜ Ready (now site) triples (now rule) (now starts) count (now up) (now role) (now first) × Full (now numbers) ⌝ }
     ensures { λ _. ⌜ Hinted (now (site .entry)) triples (now (rule .entry)) (now (up .entry)) (now (role .entry)) (now (first .entry)) (goalOf goal) (now (numbers .entry)) (now (numbers .exit)) ⌝ }
 {
-    let mut hints = [0u16; HINTS];
-    let mut steps = [0u8; RECORDS];
     thread(site, triples, scratch);
-    sizes(rule, starts, count, first, &mut hints);
-    orders(rule, starts, count, first, &mut hints);
+    sizes(rule, starts, count, first, scratch);
+    orders(rule, starts, count, first, scratch);
     search_all(
         site,
         triples,
@@ -1779,7 +1628,5 @@ pub fn levels<'a>(
         goal,
         scratch,
         numbers,
-        &mut hints,
-        &mut steps,
     )
 }

@@ -1,16 +1,30 @@
 // Which steps may be last in an expression, and which may come before it, as sets of the steps of its body: hints for the order
 // of work, read off the rule. A body has at most 16 steps, so a set has 16 bits; nothing rests on what a hint says.
-use crate::cells::SETS;
+use crate::cells::put_set;
+use crate::cells::set_at;
 use crate::pairs::wide;
+use crate::threads::FREE;
 use records::Label;
 use records::RECORDS;
 use records::Record;
+use records::TERMS;
 use records::rule::record_of;
 ghost use Prim.Native.Nat.{_<_};
 ghost use Rattle.meaning.specs.Limits.{records};
 
+// Scratch behind the threads, in cells: for two levels by turns, which steps are open at a term; which ever were; the lists of both
+// levels, a byte for a term; and the columns of the hints.
+pub const OPEN: usize = FREE;
+
+pub const DONE: usize = OPEN + TERMS + TERMS;
+
+pub const LIST: usize = DONE + TERMS;
+
+const HINTS: usize = LIST + TERMS;
+
 // The columns, an entry a record: its size and flags, its place in the order second operand, first operand, record, the record at
-// a place, the last record of its body, the steps that may be last in it, those that may come before, and its parent in its body.
+// a place, the last record of its body, the steps that may be last in it, those that may come before, and its parent in its body;
+// and, by its bit, the record of a step.
 const SIZE: usize = 0;
 
 const PLACE: usize = SIZE + RECORDS;
@@ -25,31 +39,22 @@ const BEFORE: usize = LAST + RECORDS;
 
 const PARENT: usize = BEFORE + RECORDS;
 
-pub const HINTS: usize = PARENT + RECORDS;
+const STEPS: usize = PARENT + RECORDS;
+
+const COLUMNS: usize = STEPS + RECORDS;
 
 // Flags beside the size: the expression may pass empty at a term of the vocabulary; it may end with a star.
 const EMPTY: usize = 64;
 
 const STAR: usize = 128;
 
-// An entry in full width: a function, since of an argument it is known that it fits.
-fn widened(x: u16) -> usize {
-    x as usize
+// An entry of the columns.
+fn hint(scratch: &[u8], i: usize) -> usize {
+    set_at(scratch, HINTS + i % COLUMNS)
 }
 
-// An entry; 0 past the end.
-fn hint(hints: &[u16], i: usize) -> usize {
-    if hints.len() <= i {
-        return 0;
-    }
-    widened(hints[i])
-}
-
-fn put_hint(hints: &mut [u16], i: usize, v: usize) {
-    if hints.len() <= i {
-        return;
-    }
-    hints[i] = (v % SETS) as u16;
+fn put_hint(scratch: &mut [u8], i: usize, v: usize) {
+    put_set(scratch, HINTS + i % COLUMNS, v);
 }
 
 // The difference, or 0.
@@ -60,48 +65,55 @@ pub fn less(a: usize, b: usize) -> usize {
     a - b
 }
 
-pub fn size_of(hints: &[u16], r: usize) -> usize {
-    hint(hints, SIZE + r % RECORDS) % EMPTY
+pub fn size_of(scratch: &[u8], r: usize) -> usize {
+    hint(scratch, SIZE + r % RECORDS) % EMPTY
 }
 
-pub fn place_of(hints: &[u16], r: usize) -> usize {
-    hint(hints, PLACE + r % RECORDS) % RECORDS
+pub fn place_of(scratch: &[u8], r: usize) -> usize {
+    hint(scratch, PLACE + r % RECORDS) % RECORDS
 }
 
-pub fn record_in(hints: &[u16], place: usize) -> usize {
-    hint(hints, ORDER + place % RECORDS) % RECORDS
+pub fn record_in(scratch: &[u8], place: usize) -> usize {
+    hint(scratch, ORDER + place % RECORDS) % RECORDS
 }
 
-pub fn root_of(hints: &[u16], r: usize) -> usize {
-    hint(hints, ROOT + r % RECORDS) % RECORDS
+pub fn root_of(scratch: &[u8], r: usize) -> usize {
+    hint(scratch, ROOT + r % RECORDS) % RECORDS
 }
 
 // The record of its parent; 0, which is no parent's, for the last record of a body.
-pub fn parent_of(hints: &[u16], r: usize) -> usize
+pub fn parent_of(scratch: &[u8], r: usize) -> usize
     ensures { λ p. ⌜ p < records ⌝ }
 {
-    hint(hints, PARENT + r % RECORDS) % RECORDS
+    hint(scratch, PARENT + r % RECORDS) % RECORDS
 }
 
-pub fn last_in(hints: &[u16], r: usize) -> usize {
-    hint(hints, LAST + r % RECORDS)
+// The step record with this bit in the sets of its body.
+pub fn step_of(scratch: &[u8], bit: usize) -> usize
+    ensures { λ r. ⌜ r < records ⌝ }
+{
+    hint(scratch, STEPS + bit % RECORDS) % RECORDS
 }
 
-pub fn before(hints: &[u16], r: usize) -> usize {
-    hint(hints, BEFORE + r % RECORDS)
+pub fn last_in(scratch: &[u8], r: usize) -> usize {
+    hint(scratch, LAST + r % RECORDS)
+}
+
+pub fn before(scratch: &[u8], r: usize) -> usize {
+    hint(scratch, BEFORE + r % RECORDS)
 }
 
 // The flag where the expression may pass empty, else 0; and where it may end with a star.
-fn empty(hints: &[u16], r: usize) -> usize {
-    hint(hints, SIZE + r % RECORDS) & EMPTY
+fn empty(scratch: &[u8], r: usize) -> usize {
+    hint(scratch, SIZE + r % RECORDS) & EMPTY
 }
 
-fn star(hints: &[u16], r: usize) -> usize {
-    hint(hints, SIZE + r % RECORDS) & STAR
+fn star(scratch: &[u8], r: usize) -> usize {
+    hint(scratch, SIZE + r % RECORDS) & STAR
 }
 
-pub fn ends_in_star(hints: &[u16], r: usize) -> bool {
-    star(hints, r) != 0
+pub fn ends_in_star(scratch: &[u8], r: usize) -> bool {
+    star(scratch, r) != 0
 }
 
 // This set where the flag is up, else none.
@@ -118,64 +130,71 @@ fn more(a: usize, b: usize) -> usize {
 }
 
 // The size of a record and its flags, from those of its operands.
-fn sized(rec: Record, first: usize, second: usize, hints: &[u16]) -> usize {
+fn sized(rec: Record, first: usize, second: usize, scratch: &[u8]) -> usize {
     match rec {
         Record::Step(step) => {
             let label = step.label;
             match label {
                 Label::Any => 1,
                 Label::Term(_) => 1,
-                Label::Test => more(0, size_of(hints, second)),
+                Label::Test => more(0, size_of(scratch, second)),
             }
         }
         Record::Sequence => {
-            let flags = empty(hints, first) & empty(hints, second)
-                | star(hints, second)
-                | only_if(empty(hints, second), star(hints, first));
-            more(size_of(hints, first), size_of(hints, second)) | flags
+            let flags = empty(scratch, first) & empty(scratch, second)
+                | star(scratch, second)
+                | only_if(empty(scratch, second), star(scratch, first));
+            more(size_of(scratch, first), size_of(scratch, second)) | flags
         }
         Record::Choice => {
-            let flags = empty(hints, first)
-                | empty(hints, second)
-                | star(hints, first)
-                | star(hints, second);
-            more(size_of(hints, first), size_of(hints, second)) | flags
+            let flags = empty(scratch, first)
+                | empty(scratch, second)
+                | star(scratch, first)
+                | star(scratch, second);
+            more(size_of(scratch, first), size_of(scratch, second)) | flags
         }
-        Record::Star => more(0, size_of(hints, second)) | EMPTY | STAR,
+        Record::Star => more(0, size_of(scratch, second)) | EMPTY | STAR,
     }
 }
 
 // Record r stands at this place, in the body of this root, below this parent.
-fn stand(hints: &mut [u16], r: usize, place: usize, root: usize, parent: usize) {
-    put_hint(hints, PLACE + r % RECORDS, place);
-    put_hint(hints, ORDER + place % RECORDS, r);
-    put_hint(hints, ROOT + r % RECORDS, root);
-    put_hint(hints, PARENT + r % RECORDS, parent);
+fn stand(scratch: &mut [u8], r: usize, place: usize, root: usize, parent: usize) {
+    put_hint(scratch, PLACE + r % RECORDS, place);
+    put_hint(scratch, ORDER + place % RECORDS, r);
+    put_hint(scratch, ROOT + r % RECORDS, root);
+    put_hint(scratch, PARENT + r % RECORDS, parent);
 }
 
 // The operands of record r take their places before it.
-fn order(rec: Record, first: usize, second: usize, r: usize, hints: &mut [u16]) {
-    let place = less(place_of(hints, r), 1);
-    let root = root_of(hints, r);
+fn order(rec: Record, first: usize, second: usize, r: usize, scratch: &mut [u8]) {
+    let place = less(place_of(scratch, r), 1);
+    let root = root_of(scratch, r);
     match rec {
         Record::Step(step) => {
             let label = step.label;
             match label {
                 Label::Any => {}
                 Label::Term(_) => {}
-                Label::Test => stand(hints, second, place, second, 0),
+                Label::Test => stand(scratch, second, place, second, 0),
             }
         }
-        Record::Sequence => order_join(first, second, place, root, r, hints),
-        Record::Choice => order_join(first, second, place, root, r, hints),
-        Record::Star => stand(hints, second, place, root, r),
+        Record::Sequence => order_join(first, second, place, root, r, scratch),
+        Record::Choice => order_join(first, second, place, root, r, scratch),
+        Record::Star => stand(scratch, second, place, root, r),
     }
 }
 
-fn order_join(first: usize, second: usize, place: usize, root: usize, r: usize, hints: &mut [u16]) {
-    stand(hints, first, place, root, r);
-    let size = size_of(hints, first);
-    stand(hints, second, less(place, size), root, r);
+fn order_join(
+    first: usize,
+    second: usize,
+    place: usize,
+    root: usize,
+    r: usize,
+    scratch: &mut [u8],
+) {
+    stand(scratch, first, place, root, r);
+    let size = size_of(scratch, first);
+    stand(scratch, second, less(place, size), root, r);
 }
 
 // Record r; of a number past the last, some record.
@@ -189,7 +208,7 @@ fn size_at<'a>(
     starts: &[u8; RECORDS],
     first: &'a [u8; RECORDS],
     r: usize,
-    hints: &mut [u16],
+    scratch: &mut [u8],
 ) {
     if RECORDS <= r {
         return;
@@ -198,9 +217,9 @@ fn size_at<'a>(
         some_record(rule, starts, r),
         wide(first[r]),
         less(r, 1),
-        hints,
+        scratch,
     );
-    put_hint(hints, SIZE + r, v);
+    put_hint(scratch, SIZE + r, v);
 }
 
 fn order_at<'a>(
@@ -208,7 +227,7 @@ fn order_at<'a>(
     starts: &[u8; RECORDS],
     first: &'a [u8; RECORDS],
     r: usize,
-    hints: &mut [u16],
+    scratch: &mut [u8],
 ) {
     if RECORDS <= r {
         return;
@@ -218,7 +237,7 @@ fn order_at<'a>(
         wide(first[r]),
         less(r, 1),
         r,
-        hints,
+        scratch,
     );
 }
 
@@ -228,11 +247,11 @@ pub fn sizes<'a>(
     starts: &[u8; RECORDS],
     count: usize,
     first: &'a [u8; RECORDS],
-    hints: &mut [u16],
+    scratch: &mut [u8],
 ) {
     let mut r = 0;
     while r < count {
-        size_at(rule, starts, first, r, hints);
+        size_at(rule, starts, first, r, scratch);
         r += 1;
     }
 }
@@ -243,14 +262,14 @@ pub fn orders<'a>(
     starts: &[u8; RECORDS],
     count: usize,
     first: &'a [u8; RECORDS],
-    hints: &mut [u16],
+    scratch: &mut [u8],
 ) {
     let whole = less(count, 1);
-    stand(hints, whole, whole, whole, 0);
+    stand(scratch, whole, whole, whole, 0);
     let mut r = count;
     while 0 < r {
         r -= 1;
-        order_at(rule, starts, first, r, hints);
+        order_at(rule, starts, first, r, scratch);
     }
 }
 
@@ -261,50 +280,50 @@ fn last_of(
     second: usize,
     r: usize,
     n: usize,
-    steps: &mut [u8; RECORDS],
-    hints: &mut [u16],
+    scratch: &mut [u8],
 ) -> usize {
     match rec {
         Record::Step(_) => {
-            steps[n % RECORDS] = (r % RECORDS) as u8;
-            put_hint(hints, LAST + r % RECORDS, 1usize << (n % 16));
+            put_hint(scratch, STEPS + n % RECORDS, r);
+            put_hint(scratch, LAST + r % RECORDS, 1usize << (n % 16));
             n % RECORDS + 1
         }
         Record::Sequence => {
-            let set = last_in(hints, second) | only_if(empty(hints, second), last_in(hints, first));
-            put_hint(hints, LAST + r % RECORDS, set);
+            let set = last_in(scratch, second)
+                | only_if(empty(scratch, second), last_in(scratch, first));
+            put_hint(scratch, LAST + r % RECORDS, set);
             n
         }
         Record::Choice => {
-            let set = last_in(hints, first) | last_in(hints, second);
-            put_hint(hints, LAST + r % RECORDS, set);
+            let set = last_in(scratch, first) | last_in(scratch, second);
+            put_hint(scratch, LAST + r % RECORDS, set);
             n
         }
         Record::Star => {
-            let set = last_in(hints, second);
-            put_hint(hints, LAST + r % RECORDS, set);
+            let set = last_in(scratch, second);
+            put_hint(scratch, LAST + r % RECORDS, set);
             n
         }
     }
 }
 
 // The steps that may come before the operands of record r.
-fn before_of(rec: Record, first: usize, second: usize, r: usize, hints: &mut [u16]) {
-    let set = before(hints, r);
+fn before_of(rec: Record, first: usize, second: usize, r: usize, scratch: &mut [u8]) {
+    let set = before(scratch, r);
     match rec {
         Record::Step(_) => {}
         Record::Sequence => {
-            put_hint(hints, BEFORE + first % RECORDS, set);
-            let then = last_in(hints, first) | only_if(empty(hints, first), set);
-            put_hint(hints, BEFORE + second % RECORDS, then);
+            put_hint(scratch, BEFORE + first % RECORDS, set);
+            let then = last_in(scratch, first) | only_if(empty(scratch, first), set);
+            put_hint(scratch, BEFORE + second % RECORDS, then);
         }
         Record::Choice => {
-            put_hint(hints, BEFORE + first % RECORDS, set);
-            put_hint(hints, BEFORE + second % RECORDS, set);
+            put_hint(scratch, BEFORE + first % RECORDS, set);
+            put_hint(scratch, BEFORE + second % RECORDS, set);
         }
         Record::Star => {
-            let again = set | last_in(hints, second);
-            put_hint(hints, BEFORE + second % RECORDS, again);
+            let again = set | last_in(scratch, second);
+            put_hint(scratch, BEFORE + second % RECORDS, again);
         }
     }
 }
@@ -317,13 +336,12 @@ fn last_if<'a>(
     b: usize,
     r: usize,
     n: usize,
-    steps: &mut [u8; RECORDS],
-    hints: &mut [u16],
+    scratch: &mut [u8],
 ) -> usize {
     if RECORDS <= r {
         return n;
     }
-    if root_of(hints, r) != b {
+    if root_of(scratch, r) != b {
         return n;
     }
     last_of(
@@ -332,8 +350,7 @@ fn last_if<'a>(
         less(r, 1),
         r,
         n,
-        steps,
-        hints,
+        scratch,
     )
 }
 
@@ -343,18 +360,18 @@ fn before_if<'a>(
     first: &'a [u8; RECORDS],
     b: usize,
     r: usize,
-    hints: &mut [u16],
+    scratch: &mut [u8],
 ) {
     if RECORDS <= r {
         return;
     }
-    if root_of(hints, r) == b {
+    if root_of(scratch, r) == b {
         before_of(
             some_record(rule, starts, r),
             wide(first[r]),
             less(r, 1),
             r,
-            hints,
+            scratch,
         );
     }
 }
@@ -365,16 +382,15 @@ pub fn lasts<'a>(
     starts: &[u8; RECORDS],
     first: &'a [u8; RECORDS],
     b: usize,
-    steps: &mut [u8; RECORDS],
-    hints: &mut [u16],
+    scratch: &mut [u8],
 ) {
     if RECORDS <= b {
         return;
     }
     let mut n = 0;
-    let mut r = less(b + 1, size_of(hints, b));
+    let mut r = less(b + 1, size_of(scratch, b));
     while r <= b {
-        n = last_if(rule, starts, first, b, r, n, steps, hints);
+        n = last_if(rule, starts, first, b, r, n, scratch);
         r += 1;
     }
 }
@@ -385,16 +401,16 @@ pub fn befores<'a>(
     starts: &[u8; RECORDS],
     first: &'a [u8; RECORDS],
     b: usize,
-    hints: &mut [u16],
+    scratch: &mut [u8],
 ) {
     if RECORDS <= b {
         return;
     }
-    put_hint(hints, BEFORE + b, 0);
-    let low = less(b + 1, size_of(hints, b));
+    put_hint(scratch, BEFORE + b, 0);
+    let low = less(b + 1, size_of(scratch, b));
     let mut r = b + 1;
     while low < r {
         r -= 1;
-        before_if(rule, starts, first, b, r, hints);
+        before_if(rule, starts, first, b, r, scratch);
     }
 }

@@ -1,5 +1,7 @@
 -- `fewest::levels::begin` meets its contract: what may pass empty, and nothing of the table after it.
-use Rattle.fewest.proofs.Hints.{hinted-full}
+use mathlib.Core.Logic.{⊎-elim}
+use Rattle.fewest.specs.Work.{goalOf, Hinted}
+use Rattle.fewest.proofs.Hints.{hinted-none}
 use borrow.Author.Needs.{needs}
 use Rattle.fewest.proofs.levels.begin.Statement.{statement}
 use Rattle.fewest.proofs.levels.begin.Tie as tie
@@ -7,17 +9,11 @@ use Rattle.fewest.proofs.levels.begin.Tie as tie
 witness-requires : tie.Need-witness-requires
 witness-requires c κs = search needs
 
-pass-empty-requires : tie.Need-pass-empty-requires
-pass-empty-requires c κs = search needs
-
 last-in-requires : tie.Need-last-in-requires
 last-in-requires c κs = search needs
 
-openable-requires : tie.Need-openable-requires
-openable-requires c κs =
-    let after-pass-empty = c .before .before .before .before in
-    let pre = after-pass-empty .before .before .before .before .before .before .before .before .before .pre in
-    (hinted-full (after-pass-empty .pass-empty .ensures) (pre .1), pre .0 .climbs, pre .2)
+possible-requires : tie.Need-possible-requires
+possible-requires c κs = let pre = c .before .before .before .before .before .before .before .before .before .before .before .pre in (pre .1, pre .0 .climbs, pre .2)
 
 open-requires : tie.Need-open-requires
 open-requires c κs = search needs
@@ -29,17 +25,46 @@ same-length-2 : tie.Need-same-length-2
 same-length-2 c = search needs
 
 returns : tie.Need-returns
-returns c = search needs
+returns c = hinted-none
+
+ends-in-star-requires : tie.Need-ends-in-star-requires
+ends-in-star-requires c κs = search needs
+
+fill-within-requires : tie.Need-fill-within-requires
+fill-within-requires c κs = search needs
+
+-- the body has passed empty, or may not
+passed : (c : tie.Joined2) →
+    let args = c .before .before .before .before .before .before .before .before .before .before .before .before .args in
+    Hinted (args .site .now) (args .triples) (args .rule .now) (args .up .now) (args .role .now) (args .first .now) (goalOf (args .goal)) (args .numbers .now) (c .if2 .numbers)
+passed c = ⊎-elim (λ w. rw (w .6) (w .3 .ensures)) (λ w. rw (w .1) hinted-none) (c .if2 .came)
+
+open-requires-2 : tie.Need-open-requires-2
+open-requires-2 c κs = search needs
+
+same-length-3 : tie.Need-same-length-3
+same-length-3 c = search needs
+
+same-length-4 : tie.Need-same-length-4
+same-length-4 c = passed (c .before .before .before .before) .long
+
+returns-2 : tie.Need-returns-2
+returns-2 c = passed (c .before .before .before .before)
 
 pub begin-spec : {M : Type 1} → statement M
 begin-spec =
     tie.close
     (tie.spec
     witness-requires
-    pass-empty-requires
     last-in-requires
-    openable-requires
+    possible-requires
     open-requires
     same-length
     same-length-2
-    returns)
+    returns
+    ends-in-star-requires
+    fill-within-requires
+    open-requires-2
+    same-length-3
+    same-length-4
+    returns-2)

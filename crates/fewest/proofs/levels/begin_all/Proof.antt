@@ -13,11 +13,11 @@ use Rattle.fewest.proofs.levels.begin_all.Statement.{statement}
 use Rattle.fewest.proofs.levels.begin_all.Tie as tie
 
 abbrev Inv-loop : tie.InvT-loop
-Inv-loop site triples rule starts count up role first goal scratch₀ numbers₀ hints steps b len₀ rest₀ scratch numbers len rest =
+Inv-loop site triples rule starts count up role first goal scratch₀ numbers₀ b len₀ rest₀ scratch numbers len rest =
     Hinted site triples rule up role first (goalOf goal) numbers₀ numbers × (length scratch ≡ length scratch₀)
 
 abbrev μ-loop : tie.MeasureT-loop
-μ-loop site triples rule starts count up role first goal scratch₀ numbers₀ hints steps b len₀ rest₀ scratch numbers len rest = rest
+μ-loop site triples rule starts count up role first goal scratch₀ numbers₀ b len₀ rest₀ scratch numbers len rest = rest
 
 finish-requires : tie.Need-finish-requires Inv-loop μ-loop
 finish-requires c κs = search needs
@@ -34,27 +34,25 @@ cast-bit c = omega (arith, trailing-le 64 (c .before .loop .rest))
 sub-rest : tie.Need-sub-rest Inv-loop μ-loop
 sub-rest c = omega (arith, c .loop-test .taken)
 
-element-copy-out-wide : tie.Need-element-copy-out-wide Inv-loop μ-loop
-element-copy-out-wide c = omega arith
-
-wide-requires : tie.Need-wide-requires Inv-loop μ-loop
-wide-requires c κs = search needs
+step-of-requires : tie.Need-step-of-requires Inv-loop μ-loop
+step-of-requires c κs = search needs
 
 sweep-if-requires : tie.Need-sweep-if-requires Inv-loop μ-loop
 sweep-if-requires c κs =
     let head = c .before .before .before .before .before in
-    let after-finish = head .before .before .before .before .before .before in
-    let pre = after-finish .before .before .before .before .before .before .before .before .pre in
+    let after-finish = head .before .before .before .before .before .before .before in
+    let pre = after-finish .before .before .before .before .before .before .before .pre in
     (pre .0, hinted-full (hinted-then (after-finish .finish .ensures) (head .loop .inv .0)) (pre .1))
 
 rise-all-requires : tie.Need-rise-all-requires Inv-loop μ-loop
 rise-all-requires c κs =
     let after-sweep-if = c .before .before .before .before in
-    let head = after-sweep-if .before .before .before .before .before .before in
-    let after-finish = head .before .before .before .before .before .before in
-    let pre = after-finish .before .before .before .before .before .before .before .before .pre in
+    let after-step-of = after-sweep-if .before .before .before in
+    let head = after-step-of .before .before .before in
+    let after-finish = head .before .before .before .before .before .before .before in
+    let pre = after-finish .before .before .before .before .before .before .before .pre in
     let swept = hinted-then (head .loop .inv .0) (after-sweep-if .sweep-if .ensures) in
-    (pre .0, hinted-full (hinted-then (after-finish .finish .ensures) swept) (pre .1))
+    (pre .0, hinted-full (hinted-then (after-finish .finish .ensures) swept) (pre .1), after-step-of .step-of .ensures)
 
 loop-less : tie.Need-loop-less Inv-loop μ-loop
 loop-less c =
@@ -71,13 +69,13 @@ loop-again c =
     (hinted-then swept (after-rise-all .rise-all .ensures), after-rise-all .rise-all .kept .1 .1 .1 .1 .1 .1 .1 .1 .1 .0 ∙ head .loop .inv .1)
 
 same-length : tie.Need-same-length Inv-loop μ-loop
-same-length c = c .before .loop .inv .1 ∙ c .before .before .before .before .before .before .before .finish .kept .1 .1 .1 .1 .1 .1 .1 .1 .1 .0
+same-length c = c .before .loop .inv .1 ∙ c .before .before .before .before .before .before .before .before .finish .kept .1 .1 .1 .1 .1 .1 .1 .1 .1 .0
 
 same-length-2 : tie.Need-same-length-2 Inv-loop μ-loop
-same-length-2 c = c .before .loop .inv .0 .long ∙ c .before .before .before .before .before .before .before .finish .ensures .long
+same-length-2 c = c .before .loop .inv .0 .long ∙ c .before .before .before .before .before .before .before .before .finish .ensures .long
 
 returns : tie.Need-returns Inv-loop μ-loop
-returns c = hinted-then (c .before .before .before .before .before .before .before .finish .ensures) (c .before .loop .inv .0)
+returns c = hinted-then (c .before .before .before .before .before .before .before .before .finish .ensures) (c .before .loop .inv .0)
 
 pub begin-all-spec : {M : Type 1} → statement M
 begin-all-spec =
@@ -90,8 +88,7 @@ begin-all-spec =
     loop-holds
     cast-bit
     sub-rest
-    element-copy-out-wide
-    wide-requires
+    step-of-requires
     sweep-if-requires
     rise-all-requires
     loop-less

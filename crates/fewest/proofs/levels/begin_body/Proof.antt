@@ -6,7 +6,7 @@ use Rattle.fewest.proofs.levels.begin_body.Tie as tie
 
 element-copy-out-if1 : tie.Need-element-copy-out-if1
 unfolding records
-element-copy-out-if1 c = c .before .before .before .before .before .pre .2
+element-copy-out-if1 c = c .before .before .before .before .pre .2
 
 enum-known-goal : tie.Need-enum-known-goal
 enum-known-goal c = search needs

@@ -11,7 +11,7 @@ returns c = hinted-none
 begin-requires : tie.Need-begin-requires
 unfolding terms
 begin-requires c κs =
-    let pre = c .before .before .before .before .before .before .before .before .pre in
+    let pre = c .before .before .before .before .before .before .before .pre in
     (pre .0, pre .1, c .before .before .if1 .left)
 
 same-length : tie.Need-same-length

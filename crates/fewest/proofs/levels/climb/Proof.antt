@@ -11,11 +11,11 @@ use Rattle.fewest.proofs.levels.climb.Statement.{statement}
 use Rattle.fewest.proofs.levels.climb.Tie as tie
 
 abbrev Inv-loop : tie.InvT-loop
-Inv-loop site triples rule starts count up role first goal numbers₀ hints r t k at₀ numbers at =
+Inv-loop site triples rule starts count up role first goal scratch numbers₀ r t k at₀ numbers at =
     (at < records) × Hinted site triples rule up role first (goalOf goal) numbers₀ numbers
 
 abbrev μ-loop : tie.MeasureT-loop
-μ-loop site triples rule starts count up role first goal numbers₀ hints r t k at₀ numbers at = records - at
+μ-loop site triples rule starts count up role first goal scratch numbers₀ r t k at₀ numbers at = records - at
 
 loop-holds : tie.Need-loop-holds Inv-loop μ-loop
 loop-holds c = (c .before .before .before .before .pre .2, hinted-none)

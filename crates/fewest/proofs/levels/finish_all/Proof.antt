@@ -11,11 +11,11 @@ use Rattle.fewest.proofs.levels.finish_all.Statement.{statement}
 use Rattle.fewest.proofs.levels.finish_all.Tie as tie
 
 abbrev Inv-loop : tie.InvT-loop
-Inv-loop site triples rule starts count up role first goal scratch₀ numbers₀ hints b t₀ scratch numbers t =
+Inv-loop site triples rule starts count up role first goal scratch₀ numbers₀ b t₀ scratch numbers t =
     Hinted site triples rule up role first (goalOf goal) numbers₀ numbers × (length scratch ≡ length scratch₀)
 
 abbrev μ-loop : tie.MeasureT-loop
-μ-loop site triples rule starts count up role first goal scratch₀ numbers₀ hints b t₀ scratch numbers t = terms - t
+μ-loop site triples rule starts count up role first goal scratch₀ numbers₀ b t₀ scratch numbers t = terms - t
 
 loop-holds : tie.Need-loop-holds Inv-loop μ-loop
 loop-holds c = (hinted-none, refl)
@@ -25,7 +25,7 @@ unfolding terms
 finish-at-requires c κs =
     let turn = c .before .before in
     let head = turn .before in
-    let pre = head .before .before .before .before .before .before .pre in
+    let pre = head .before .before .before .before .before .pre in
     (pre .0, hinted-full (head .loop .inv .0) (pre .1), turn .loop-test .taken)
 
 add-t : tie.Need-add-t Inv-loop μ-loop

@@ -15,8 +15,8 @@ same-length c = search needs
 returns : tie.Need-returns
 returns c = hinted-none
 
-pass-empty-requires : tie.Need-pass-empty-requires
-pass-empty-requires c κs = search needs
+fill-within-requires : tie.Need-fill-within-requires
+fill-within-requires c κs = search needs
 
 add-put-set : tie.Need-add-put-set
 unfolding terms
@@ -44,7 +44,7 @@ finish-at-spec =
     witness-requires
     same-length
     returns
-    pass-empty-requires
+    fill-within-requires
     add-put-set
     last-in-requires
     put-set-requires

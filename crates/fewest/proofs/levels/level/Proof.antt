@@ -11,31 +11,34 @@ use Rattle.fewest.proofs.levels.level.Statement.{statement}
 use Rattle.fewest.proofs.levels.level.Tie as tie
 
 abbrev Inv-loop : tie.InvT-loop
-Inv-loop site triples rule starts count up role first goal scratch₀ numbers₀ hints steps side len next₀ i₀ scratch numbers next i =
+Inv-loop site triples rule starts count up role first goal scratch₀ numbers₀ side len next₀ i₀ scratch numbers next i =
     Hinted site triples rule up role first (goalOf goal) numbers₀ numbers × (length scratch ≡ length scratch₀)
 
 abbrev μ-loop : tie.MeasureT-loop
-μ-loop site triples rule starts count up role first goal scratch₀ numbers₀ hints steps side len next₀ i₀ scratch numbers next i = len - i
+μ-loop site triples rule starts count up role first goal scratch₀ numbers₀ side len next₀ i₀ scratch numbers next i = len - i
 
 loop-holds : tie.Need-loop-holds Inv-loop μ-loop
 loop-holds c = (hinted-none, refl)
 
-mul-set-at : tie.Need-mul-set-at Inv-loop μ-loop
-mul-set-at c = omega arith
+add-byte-at : tie.Need-add-byte-at Inv-loop μ-loop
+add-byte-at c = omega arith
 
-add-set-at : tie.Need-add-set-at Inv-loop μ-loop
-add-set-at c = omega arith
+mul-byte-at : tie.Need-mul-byte-at Inv-loop μ-loop
+mul-byte-at c = omega arith
 
-add-set-at-2 : tie.Need-add-set-at-2 Inv-loop μ-loop
-add-set-at-2 c = omega arith
+add-byte-at-2 : tie.Need-add-byte-at-2 Inv-loop μ-loop
+add-byte-at-2 c = omega arith
 
-set-at-requires : tie.Need-set-at-requires Inv-loop μ-loop
-set-at-requires c κs = search needs
+add-byte-at-3 : tie.Need-add-byte-at-3 Inv-loop μ-loop
+add-byte-at-3 c = omega arith
+
+byte-at-requires : tie.Need-byte-at-requires Inv-loop μ-loop
+byte-at-requires c κs = search needs
 
 take-term-requires : tie.Need-take-term-requires Inv-loop μ-loop
 take-term-requires c κs =
     let head = c .before .before .before .before .before in
-    let pre = head .before .before .before .before .before .before .pre in
+    let pre = head .before .before .before .before .before .pre in
     (pre .0, hinted-full (head .loop .inv .0) (pre .1))
 
 add-i : tie.Need-add-i Inv-loop μ-loop
@@ -66,10 +69,11 @@ level-spec =
     Inv-loop
     μ-loop
     loop-holds
-    mul-set-at
-    add-set-at
-    add-set-at-2
-    set-at-requires
+    add-byte-at
+    mul-byte-at
+    add-byte-at-2
+    add-byte-at-3
+    byte-at-requires
     take-term-requires
     add-i
     loop-less

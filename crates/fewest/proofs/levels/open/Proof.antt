@@ -66,17 +66,20 @@ same-length-3 c = search needs
 returns-3 : tie.Need-returns-3
 returns-3 c = search needs
 
-mul-put-set-2 : tie.Need-mul-put-set-2
-mul-put-set-2 c = search needs
+add-put-byte : tie.Need-add-put-byte
+add-put-byte c = search needs
 
-add-put-set-4 : tie.Need-add-put-set-4
-add-put-set-4 c = search needs
+mul-put-byte : tie.Need-mul-put-byte
+mul-put-byte c = search needs
 
-add-put-set-5 : tie.Need-add-put-set-5
-add-put-set-5 c = search needs
+add-put-byte-2 : tie.Need-add-put-byte-2
+add-put-byte-2 c = search needs
 
-put-set-requires-3 : tie.Need-put-set-requires-3
-put-set-requires-3 c κs = search needs
+add-put-byte-3 : tie.Need-add-put-byte-3
+add-put-byte-3 c = search needs
+
+put-byte-requires : tie.Need-put-byte-requires
+put-byte-requires c κs = search needs
 
 add-result : tie.Need-add-result
 add-result c = search needs
@@ -110,10 +113,11 @@ open-spec =
     returns-2
     same-length-3
     returns-3
-    mul-put-set-2
-    add-put-set-4
-    add-put-set-5
-    put-set-requires-3
+    add-put-byte
+    mul-put-byte
+    add-put-byte-2
+    add-put-byte-3
+    put-byte-requires
     add-result
     same-length-4
     returns-4)

@@ -10,11 +10,11 @@ use Rattle.fewest.proofs.levels.possible.Statement.{statement}
 use Rattle.fewest.proofs.levels.possible.Tie as tie
 
 abbrev Inv-loop : tie.InvT-loop
-Inv-loop up role goal numbers steps set t rest₀ got₀ rest got =
+Inv-loop up role goal scratch numbers set t rest₀ got₀ rest got =
     Unit
 
 abbrev μ-loop : tie.MeasureT-loop
-μ-loop up role goal numbers steps set t rest₀ got₀ rest got = rest
+μ-loop up role goal scratch numbers set t rest₀ got₀ rest got = rest
 
 loop-holds : tie.Need-loop-holds Inv-loop μ-loop
 loop-holds c = tt
@@ -25,22 +25,19 @@ cast-bit c = omega (arith, trailing-le 64 (c .before .loop .rest))
 sub-rest : tie.Need-sub-rest Inv-loop μ-loop
 sub-rest c = omega (arith, c .loop-test .taken)
 
-element-copy-out-wide : tie.Need-element-copy-out-wide Inv-loop μ-loop
-element-copy-out-wide c = omega arith
-
-wide-requires : tie.Need-wide-requires Inv-loop μ-loop
-wide-requires c κs = search needs
+step-of-requires : tie.Need-step-of-requires Inv-loop μ-loop
+step-of-requires c κs = search needs
 
 possible-one-requires : tie.Need-possible-one-requires Inv-loop μ-loop
 unfolding records
 possible-one-requires c κs =
     let pre = c .before .before .before .before .before .pre in
-    (pre .0, pre .1, omega arith, pre .2)
+    (pre .0, pre .1, c .step-of .ensures, omega arith, pre .2)
 
 loop-less : tie.Need-loop-less Inv-loop μ-loop
 loop-less c =
     omega
-    (arith, c .before .before .before .loop-test .taken, and-le-r (c .before .before .before .before .loop .rest) (c .before .before .before .before .loop .rest - 1))
+    (arith, c .before .before .loop-test .taken, and-le-r (c .before .before .before .loop .rest) (c .before .before .before .loop .rest - 1))
 
 loop-again : tie.Need-loop-again Inv-loop μ-loop
 loop-again c = tt
@@ -57,8 +54,7 @@ possible-spec =
     loop-holds
     cast-bit
     sub-rest
-    element-copy-out-wide
-    wide-requires
+    step-of-requires
     possible-one-requires
     loop-less
     loop-again

@@ -5,24 +5,18 @@ use native.Mathlib.Omega.{arith}
 use Rattle.fewest.proofs.levels.possible_one.Statement.{statement}
 use Rattle.fewest.proofs.levels.possible_one.Tie as tie
 
-returns : tie.Need-returns
-returns c = search needs
-
 left-requires : tie.Need-left-requires
-unfolding records
-left-requires c κs =
-    let pre = c .before .before .pre in
-    (pre .0, pre .1, c .if1 .left, pre .3)
+left-requires c κs = let pre = c .before .pre in (pre .0, pre .1, pre .2, pre .4)
 
 shl-result : tie.Need-shl-result
 unfolding records
-shl-result c = omega (arith, c .before .before .before .before .pre .2)
+shl-result c = omega (arith, c .before .before .before .pre .3)
+
+returns : tie.Need-returns
+returns c = search needs
 
 returns-2 : tie.Need-returns-2
 returns-2 c = search needs
 
-returns-3 : tie.Need-returns-3
-returns-3 c = search needs
-
 pub possible-one-spec : {M : Type 1} → statement M
-possible-one-spec = tie.close (tie.spec returns left-requires shl-result returns-2 returns-3)
+possible-one-spec = tie.close (tie.spec left-requires shl-result returns returns-2)

@@ -13,12 +13,6 @@ climb-requires c κs = search needs
 before-requires : tie.Need-before-requires
 before-requires c κs = search needs
 
-openable-requires : tie.Need-openable-requires
-openable-requires c κs =
-    let after-climb = c .before .before .before .before in
-    let pre = after-climb .before .before .before .before .before .before .before .before .before .pre in
-    (hinted-full (after-climb .climb .ensures) (pre .1), pre .0 .climbs, pre .3)
-
 open-requires : tie.Need-open-requires
 open-requires c κs = search needs
 
@@ -31,6 +25,24 @@ same-length-2 c = search needs
 returns : tie.Need-returns
 returns c = search needs
 
+possible-requires : tie.Need-possible-requires
+possible-requires c κs =
+    let after-climb = c .before .before .before .before .before .before .before in
+    let pre = after-climb .before .before .before .before .before .before .before .before .before .pre in
+    (hinted-full (after-climb .climb .ensures) (pre .1), pre .0 .climbs, pre .3)
+
+open-requires-2 : tie.Need-open-requires-2
+open-requires-2 c κs = search needs
+
+same-length-3 : tie.Need-same-length-3
+same-length-3 c = search needs
+
+same-length-4 : tie.Need-same-length-4
+same-length-4 c = search needs
+
+returns-2 : tie.Need-returns-2
+returns-2 c = search needs
+
 pub rise-spec : {M : Type 1} → statement M
 rise-spec =
     tie.close
@@ -38,8 +50,12 @@ rise-spec =
     witness-requires
     climb-requires
     before-requires
-    openable-requires
     open-requires
     same-length
     same-length-2
-    returns)
+    returns
+    possible-requires
+    open-requires-2
+    same-length-3
+    same-length-4
+    returns-2)

@@ -11,26 +11,22 @@ use Rattle.fewest.proofs.levels.rise_all.Statement.{statement}
 use Rattle.fewest.proofs.levels.rise_all.Tie as tie
 
 abbrev Inv-loop : tie.InvT-loop
-Inv-loop site triples rule starts count up role first goal scratch₀ numbers₀ hints steps r was len₀ t₀ scratch numbers len t =
+Inv-loop site triples rule starts count up role first goal scratch₀ numbers₀ r was len₀ t₀ scratch numbers len t =
     Hinted site triples rule up role first (goalOf goal) numbers₀ numbers × (length scratch ≡ length scratch₀)
 
 abbrev μ-loop : tie.MeasureT-loop
-μ-loop site triples rule starts count up role first goal scratch₀ numbers₀ hints steps r was len₀ t₀ scratch numbers len t = terms - t
-
-returns : tie.Need-returns Inv-loop μ-loop
-returns c = hinted-none
+μ-loop site triples rule starts count up role first goal scratch₀ numbers₀ r was len₀ t₀ scratch numbers len t = terms - t
 
 loop-holds : tie.Need-loop-holds Inv-loop μ-loop
 loop-holds c = (hinted-none, refl)
 
 rise-if-requires : tie.Need-rise-if-requires Inv-loop μ-loop
-unfolding terms records
+unfolding terms
 rise-if-requires c κs =
     let turn = c .before .before in
     let head = turn .before in
-    let else-1 = head .before in
-    let pre = else-1 .before .before .before .before .before .before .pre in
-    (pre .0, hinted-full (head .loop .inv .0) (pre .1), else-1 .if1 .left, turn .loop-test .taken)
+    let pre = head .before .before .before .before .before .pre in
+    (pre .0, hinted-full (head .loop .inv .0) (pre .1), pre .2, turn .loop-test .taken)
 
 add-t : tie.Need-add-t Inv-loop μ-loop
 add-t c = omega arith
@@ -51,8 +47,8 @@ same-length c = c .before .loop .inv .1
 same-length-2 : tie.Need-same-length-2 Inv-loop μ-loop
 same-length-2 c = c .before .loop .inv .0 .long
 
-returns-2 : tie.Need-returns-2 Inv-loop μ-loop
-returns-2 c = c .before .loop .inv .0
+returns : tie.Need-returns Inv-loop μ-loop
+returns c = c .before .loop .inv .0
 
 pub rise-all-spec : {M : Type 1} → statement M
 rise-all-spec =
@@ -60,7 +56,6 @@ rise-all-spec =
     (tie.spec
     Inv-loop
     μ-loop
-    returns
     loop-holds
     rise-if-requires
     add-t
@@ -68,4 +63,4 @@ rise-all-spec =
     loop-again
     same-length
     same-length-2
-    returns-2)
+    returns)

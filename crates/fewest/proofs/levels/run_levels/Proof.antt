@@ -11,11 +11,11 @@ use Rattle.fewest.proofs.levels.run_levels.Statement.{statement}
 use Rattle.fewest.proofs.levels.run_levels.Tie as tie
 
 abbrev Inv-loop : tie.InvT-loop
-Inv-loop site triples rule starts count up role first goal scratch₀ numbers₀ hints steps begun len₀ side₀ scratch numbers len side =
+Inv-loop site triples rule starts count up role first goal scratch₀ numbers₀ begun len₀ side₀ scratch numbers len side =
     Hinted site triples rule up role first (goalOf goal) numbers₀ numbers × (length scratch ≡ length scratch₀)
 
 abbrev μ-loop : tie.MeasureT-loop
-μ-loop site triples rule starts count up role first goal scratch₀ numbers₀ hints steps begun len₀ side₀ scratch numbers len side = records * terms - side
+μ-loop site triples rule starts count up role first goal scratch₀ numbers₀ begun len₀ side₀ scratch numbers len side = records * terms - side
 
 loop-holds : tie.Need-loop-holds Inv-loop μ-loop
 loop-holds c = (hinted-none, refl)
@@ -35,7 +35,7 @@ returns c = c .before .before .loop .inv .0
 level-requires : tie.Need-level-requires Inv-loop μ-loop
 level-requires c κs =
     let head = c .before .before .before .before in
-    let pre = head .before .before .before .before .before .before .pre in
+    let pre = head .before .before .before .before .before .pre in
     (pre .0, hinted-full (head .loop .inv .0) (pre .1))
 
 add-side : tie.Need-add-side Inv-loop μ-loop

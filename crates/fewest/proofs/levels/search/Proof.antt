@@ -12,8 +12,8 @@ begin-body-requires c κs = search needs
 
 run-levels-requires : tie.Need-run-levels-requires
 run-levels-requires c κs =
-    let after-begin-body = c .before .before .before .before .before .before .before .before in
-    let pre = after-begin-body .before .before .before .before .before .before .before .before .before .before .before .before .before .before .before .before .before .before .pre in
+    let after-begin-body = c .before .before .before .before .before .before in
+    let pre = after-begin-body .before .before .before .before .before .before .before .before .before .before .before .pre in
     (pre .0, hinted-full (after-begin-body .begin-body .ensures) (pre .1))
 
 same-length : tie.Need-same-length
@@ -22,13 +22,10 @@ same-length c = search needs
 same-length-2 : tie.Need-same-length-2
 same-length-2 c = search needs
 
-same-length-3 : tie.Need-same-length-3
-same-length-3 c = search needs
-
 returns : tie.Need-returns
 returns c =
     let after-run-levels = c .before .before .before .before in
-    hinted-then (after-run-levels .before .before .before .before .before .before .before .before .before .begin-body .ensures)
+    hinted-then (after-run-levels .before .before .before .before .before .before .before .begin-body .ensures)
     (after-run-levels .run-levels .ensures)
 
 pub search-spec : {M : Type 1} → statement M
@@ -40,5 +37,4 @@ search-spec =
     run-levels-requires
     same-length
     same-length-2
-    same-length-3
     returns)

@@ -11,14 +11,14 @@ use Rattle.fewest.proofs.levels.search_all.Statement.{statement}
 use Rattle.fewest.proofs.levels.search_all.Tie as tie
 
 abbrev Inv-loop : tie.InvT-loop
-Inv-loop site triples rule starts count up role first goal scratch₀ numbers₀ hints₀ steps₀ b₀ scratch numbers hints steps b =
-    Hinted site triples rule up role first (goalOf goal) numbers₀ numbers × (length scratch ≡ length scratch₀) × (length hints ≡ length hints₀)
+Inv-loop site triples rule starts count up role first goal scratch₀ numbers₀ b₀ scratch numbers b =
+    Hinted site triples rule up role first (goalOf goal) numbers₀ numbers × (length scratch ≡ length scratch₀)
 
 abbrev μ-loop : tie.MeasureT-loop
-μ-loop site triples rule starts count up role first goal scratch₀ numbers₀ hints₀ steps₀ b₀ scratch numbers hints steps b = records - b
+μ-loop site triples rule starts count up role first goal scratch₀ numbers₀ b₀ scratch numbers b = records - b
 
 loop-holds : tie.Need-loop-holds Inv-loop μ-loop
-loop-holds c = (hinted-none, refl, refl)
+loop-holds c = (hinted-none, refl)
 
 same-length : tie.Need-same-length Inv-loop μ-loop
 same-length c = c .before .before .loop .inv .1
@@ -26,18 +26,15 @@ same-length c = c .before .before .loop .inv .1
 same-length-2 : tie.Need-same-length-2 Inv-loop μ-loop
 same-length-2 c = c .before .before .loop .inv .0 .long
 
-same-length-3 : tie.Need-same-length-3 Inv-loop μ-loop
-same-length-3 c = c .before .before .loop .inv .2
-
 returns : tie.Need-returns Inv-loop μ-loop
 returns c = c .before .before .loop .inv .0
 
 search-if-requires : tie.Need-search-if-requires Inv-loop μ-loop
 unfolding records
 search-if-requires c κs =
-    let turn = c .before .before .before .before .before in
+    let turn = c .before .before .before in
     let head = turn .before in
-    let pre = head .before .before .before .before .before .before .pre in
+    let pre = head .before .before .before .before .before .pre in
     (pre .0, hinted-full (head .loop .inv .0) (pre .1), turn .loop-test .taken)
 
 add-b : tie.Need-add-b Inv-loop μ-loop
@@ -49,21 +46,15 @@ loop-less c = omega arith
 
 loop-again : tie.Need-loop-again Inv-loop μ-loop
 loop-again c =
-    let after-search-if = c .before .before .before .before .before .before in
-    let head = after-search-if .before .before .before .before .before .before .before in (
-      hinted-then (head .loop .inv .0) (after-search-if .search-if .ensures),
-      after-search-if .search-if .kept .1 .1 .1 .1 .1 .1 .1 .1 .1 .0 ∙ head .loop .inv .1,
-      after-search-if .search-if .kept .1 .1 .1 .1 .1 .1 .1 .1 .1 .1 .1 .0 ∙ head .loop .inv .2,
-    )
+    let after-search-if = c .before .before .before .before in
+    let head = after-search-if .before .before .before .before .before in
+    (hinted-then (head .loop .inv .0) (after-search-if .search-if .ensures), after-search-if .search-if .kept .1 .1 .1 .1 .1 .1 .1 .1 .1 .0 ∙ head .loop .inv .1)
+
+same-length-3 : tie.Need-same-length-3 Inv-loop μ-loop
+same-length-3 c = c .before .loop .inv .1
 
 same-length-4 : tie.Need-same-length-4 Inv-loop μ-loop
-same-length-4 c = c .before .loop .inv .1
-
-same-length-5 : tie.Need-same-length-5 Inv-loop μ-loop
-same-length-5 c = c .before .loop .inv .0 .long
-
-same-length-6 : tie.Need-same-length-6 Inv-loop μ-loop
-same-length-6 c = c .before .loop .inv .2
+same-length-4 c = c .before .loop .inv .0 .long
 
 returns-2 : tie.Need-returns-2 Inv-loop μ-loop
 returns-2 c = c .before .loop .inv .0
@@ -77,13 +68,11 @@ search-all-spec =
     loop-holds
     same-length
     same-length-2
-    same-length-3
     returns
     search-if-requires
     add-b
     loop-less
     loop-again
+    same-length-3
     same-length-4
-    same-length-5
-    same-length-6
     returns-2)

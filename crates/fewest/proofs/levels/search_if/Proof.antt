@@ -16,14 +16,11 @@ same-length c = search needs
 same-length-2 : tie.Need-same-length-2
 same-length-2 c = search needs
 
-same-length-3 : tie.Need-same-length-3
-same-length-3 c = search needs
-
 returns : tie.Need-returns
 returns c = search needs
 
-same-length-4 : tie.Need-same-length-4
-same-length-4 c = search needs
+same-length-3 : tie.Need-same-length-3
+same-length-3 c = search needs
 
 returns-2 : tie.Need-returns-2
 returns-2 c = hinted-none
@@ -36,7 +33,6 @@ search-if-spec =
     search-requires
     same-length
     same-length-2
-    same-length-3
     returns
-    same-length-4
+    same-length-3
     returns-2)

@@ -13,24 +13,24 @@ use Rattle.fewest.proofs.levels.take.Tie as tie
 -- the terms of the triple are terms
 in-terms : (c : tie.After-move-at) → Terms (c .move-at .result)
 in-terms c =
-    let (ready, full, here, within, stepping, other, so) = c .before .before .before .before .before .before .pre in
+    let (ready, full, here, within, stepping, other, so) = c .before .before .before .before .before .pre in
     moved-terms (c .move-at .ensures) (ready .good) within (_, so)
 
 -- and it is the axis's one move by it
-one-move : (c : tie.After-move-at) → let args = c .before .before .before .before .before .before .args in
+one-move : (c : tie.After-move-at) → let args = c .before .before .before .before .before .args in
     Taken (siteOf (args .site .now) (args .triples)) (args .k) (axisNumbered (args .step .axis)) (c .move-at .result)
 one-move c =
-    let (ready, full, here, within, stepping, other, so) = c .before .before .before .before .before .before .pre in
+    let (ready, full, here, within, stepping, other, so) = c .before .before .before .before .before .pre in
     moved-taken (c .move-at .ensures) (ready .good) within _ so other (stepping-sits ready here _ stepping .0)
 
 move-at-requires : tie.Need-move-at-requires
 move-at-requires c κs =
-    let (ready, full, here, within, stepping, other, so) = c .before .before .before .before .before .pre in
+    let (ready, full, here, within, stepping, other, so) = c .before .before .before .before .pre in
     ((_, ready .good, within), (_, so))
 
 reach-requires : tie.Need-reach-requires
 reach-requires c κs =
-    let (ready, full, here, within, stepping, other, so) = c .before .before .before .before .before .before .before .pre in
+    let (ready, full, here, within, stepping, other, so) = c .before .before .before .before .before .before .pre in
     let few = ready .few in
     let inside = in-terms (c .before) in
     (full, ready .climbs, omega arith, stepping-sits ready here _ stepping .1, inside .from, inside .middle, inside .to)
@@ -40,7 +40,7 @@ unfolding Full
 rise-requires c κs =
     let after-reach = c .before .before .before .before .before in
     let after-move-at = after-reach .before .before in
-    let (ready, full, here, within, stepping, other, so) = after-move-at .before .before .before .before .before .before .pre in
+    let (ready, full, here, within, stepping, other, so) = after-move-at .before .before .before .before .before .pre in
     let few = ready .few in
     (ready, after-reach .reach .kept .1 .1 .1 .1 .1 .0 ∙ full, omega arith, in-terms after-move-at .from)
 
@@ -55,7 +55,7 @@ returns c =
     let after-rise = c .before .before .before .before in
     let after-reach = after-rise .before .before .before .before .before .before in
     let after-move-at = after-reach .before .before in
-    let (ready, full, here, within, stepping, other, so) = after-move-at .before .before .before .before .before .before .pre in
+    let (ready, full, here, within, stepping, other, so) = after-move-at .before .before .before .before .before .pre in
     hinted-then
     (hinted-step ready here _ stepping (after-reach .reach .kept .1 .1 .1 .1 .1 .0) (after-reach .reach .ensures _ _ _ (one-move after-move-at .moves)))
     (after-rise .rise .ensures)
@@ -67,7 +67,7 @@ returns-2 : tie.Need-returns-2
 returns-2 c =
     let after-reach = c .before .before .before in
     let after-move-at = after-reach .before .before in
-    let (ready, full, here, within, stepping, other, so) = after-move-at .before .before .before .before .before .before .pre in
+    let (ready, full, here, within, stepping, other, so) = after-move-at .before .before .before .before .before .pre in
     hinted-step ready here _ stepping (after-reach .reach .kept .1 .1 .1 .1 .1 .0)
     (after-reach .reach .ensures _ _ _ (one-move after-move-at .moves))
 

@@ -11,11 +11,11 @@ use Rattle.fewest.proofs.levels.take_all.Statement.{statement}
 use Rattle.fewest.proofs.levels.take_all.Tie as tie
 
 abbrev Inv-loop : tie.InvT-loop
-Inv-loop site triples rule starts count up role first goal scratch₀ numbers₀ hints steps step r u side was axis parts len₀ k₀ scratch numbers len k =
+Inv-loop site triples rule starts count up role first goal scratch₀ numbers₀ step r u side was axis parts len₀ k₀ scratch numbers len k =
     Hinted site triples rule up role first (goalOf goal) numbers₀ numbers × (length scratch ≡ length scratch₀)
 
 abbrev μ-loop : tie.MeasureT-loop
-μ-loop site triples rule starts count up role first goal scratch₀ numbers₀ hints steps step r u side was axis parts len₀ k₀ scratch numbers len k = triples - k
+μ-loop site triples rule starts count up role first goal scratch₀ numbers₀ step r u side was axis parts len₀ k₀ scratch numbers len k = triples - k
 
 parts-of-requires : tie.Need-parts-of-requires Inv-loop μ-loop
 parts-of-requires c κs = search needs
@@ -31,7 +31,7 @@ take-requires c κs =
     let turn = c .before .before in
     let head = turn .before in
     let after-parts-of = head .before .before .before in
-    let pre = after-parts-of .before .before .before .before .before .before .pre in
+    let pre = after-parts-of .before .before .before .before .before .pre in
     (pre .0, hinted-full (head .loop .inv .0) (pre .1), pre .2, turn .loop-test .taken, pre .4, pre .5, after-parts-of .parts-of .ensures)
 
 inverse-requires : tie.Need-inverse-requires Inv-loop μ-loop
@@ -40,7 +40,7 @@ inverse-requires c κs = search needs
 next-from-requires : tie.Need-next-from-requires Inv-loop μ-loop
 next-from-requires c κs =
     let turn = c .before .before .before .before .before .before .before .before .before in
-    (turn .before .before .before .before .before .before .before .before .before .before .pre .0 .good, turn .loop-test .taken)
+    (turn .before .before .before .before .before .before .before .before .before .pre .0 .good, turn .loop-test .taken)
 
 loop-less : tie.Need-loop-less Inv-loop μ-loop
 loop-less c =

@@ -11,7 +11,7 @@ returns : tie.Need-returns
 returns c = hinted-none
 
 record-of-requires : tie.Need-record-of-requires
-record-of-requires c κs = let few = c .before .before .before .before .before .before .pre .0 .few in omega (arith, c .if1 .left)
+record-of-requires c κs = let few = c .before .before .before .before .before .pre .0 .few in omega (arith, c .if1 .left)
 
 enum-known-step : tie.Need-enum-known-step
 enum-known-step c = search needs
@@ -22,7 +22,7 @@ take-step-requires c κs =
     let after-step = c .before .before .before in
     let after-record-of = after-step .before .before in
     let else-1 = after-record-of .before in
-    let pre = else-1 .before .before .before .before .before .before .pre in
+    let pre = else-1 .before .before .before .before .before .pre in
     (pre .0, pre .1, else-1 .if1 .left, pre .2, sym (after-record-of .record-of .ensures) ∙ after-step .step .given .1)
 
 enum-told : tie.Need-enum-told

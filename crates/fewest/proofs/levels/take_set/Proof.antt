@@ -13,11 +13,11 @@ use Rattle.fewest.proofs.levels.take_set.Statement.{statement}
 use Rattle.fewest.proofs.levels.take_set.Tie as tie
 
 abbrev Inv-loop : tie.InvT-loop
-Inv-loop site triples rule starts count up role first goal scratch₀ numbers₀ hints steps set u side was len₀ rest₀ scratch numbers len rest =
+Inv-loop site triples rule starts count up role first goal scratch₀ numbers₀ set u side was len₀ rest₀ scratch numbers len rest =
     Hinted site triples rule up role first (goalOf goal) numbers₀ numbers × (length scratch ≡ length scratch₀)
 
 abbrev μ-loop : tie.MeasureT-loop
-μ-loop site triples rule starts count up role first goal scratch₀ numbers₀ hints steps set u side was len₀ rest₀ scratch numbers len rest = rest
+μ-loop site triples rule starts count up role first goal scratch₀ numbers₀ set u side was len₀ rest₀ scratch numbers len rest = rest
 
 loop-holds : tie.Need-loop-holds Inv-loop μ-loop
 loop-holds c = (hinted-none, refl)
@@ -28,16 +28,13 @@ cast-bit c = omega (arith, trailing-le 64 (c .before .loop .rest))
 sub-rest : tie.Need-sub-rest Inv-loop μ-loop
 sub-rest c = omega (arith, c .loop-test .taken)
 
-element-copy-out-wide : tie.Need-element-copy-out-wide Inv-loop μ-loop
-element-copy-out-wide c = omega arith
-
-wide-requires : tie.Need-wide-requires Inv-loop μ-loop
-wide-requires c κs = search needs
+step-of-requires : tie.Need-step-of-requires Inv-loop μ-loop
+step-of-requires c κs = search needs
 
 take-record-requires : tie.Need-take-record-requires Inv-loop μ-loop
 take-record-requires c κs =
     let head = c .before .before .before .before .before in
-    let pre = head .before .before .before .before .before .before .pre in
+    let pre = head .before .before .before .before .before .pre in
     (pre .0, hinted-full (head .loop .inv .0) (pre .1), pre .2)
 
 loop-less : tie.Need-loop-less Inv-loop μ-loop
@@ -70,8 +67,7 @@ take-set-spec =
     loop-holds
     cast-bit
     sub-rest
-    element-copy-out-wide
-    wide-requires
+    step-of-requires
     take-record-requires
     loop-less
     loop-again

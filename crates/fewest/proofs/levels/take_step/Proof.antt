@@ -9,7 +9,7 @@ use Rattle.fewest.proofs.levels.take_step.Tie as tie
 
 take-all-requires : tie.Need-take-all-requires
 take-all-requires c κs =
-    let pre = c .before .before .before .before .before .before .before .before .before .pre in
+    let pre = c .before .before .before .before .before .before .before .before .pre in
     (pre .0, pre .1, pre .2, pre .3, pre .4, c .before .before .if1 .taken)
 
 same-length : tie.Need-same-length
@@ -26,7 +26,7 @@ witness-requires c κs = search needs
 
 rest-at-requires : tie.Need-rest-at-requires
 rest-at-requires c κs =
-    let (ready, full, here, term, stepping) = c .before .before .before .before .before .before .before .before .before .before .pre in
+    let (ready, full, here, term, stepping) = c .before .before .before .before .before .before .before .before .before .pre in
     let few = ready .few in
     (ready .good, full, ready .climbs, omega arith, term, stepping-sits ready here _ stepping .1)
 
@@ -34,7 +34,7 @@ rise-requires : tie.Need-rise-requires
 unfolding Full
 rise-requires c κs =
     let after-rest-at = c .before .before .before .before .before in
-    let (ready, full, here, term, stepping) = after-rest-at .before .before .before .before .before .before .before .before .before .before .before .pre in
+    let (ready, full, here, term, stepping) = after-rest-at .before .before .before .before .before .before .before .before .before .before .pre in
     let few = ready .few in
     (ready, after-rest-at .rest-at .kept .1 .1 .1 .1 .1 .1 .0 ∙ full, omega arith, term)
 
@@ -49,7 +49,7 @@ returns-2 c =
     let after-rise = c .before .before .before .before in
     let after-rest-at = after-rise .before .before .before .before .before .before in
     let else-1 = after-rest-at .before .before .before .before in
-    let (ready, full, here, term, stepping) = else-1 .before .before .before .before .before .before .before .pre in
+    let (ready, full, here, term, stepping) = else-1 .before .before .before .before .before .before .pre in
     hinted-then
     (hinted-self ready here _ stepping (else-1 .if1 .left) (after-rest-at .rest-at .kept .1 .1 .1 .1 .1 .1 .0) (after-rest-at .rest-at .ensures))
     (after-rise .rise .ensures)
@@ -64,7 +64,7 @@ returns-3 : tie.Need-returns-3
 returns-3 c =
     let after-rest-at = c .before .before .before in
     let else-1 = after-rest-at .before .before .before .before in
-    let (ready, full, here, term, stepping) = else-1 .before .before .before .before .before .before .before .pre in
+    let (ready, full, here, term, stepping) = else-1 .before .before .before .before .before .before .pre in
     hinted-self ready here _ stepping (else-1 .if1 .left) (after-rest-at .rest-at .kept .1 .1 .1 .1 .1 .1 .0)
     (after-rest-at .rest-at .ensures)
 

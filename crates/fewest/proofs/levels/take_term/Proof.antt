@@ -39,7 +39,7 @@ take-set-requires : tie.Need-take-set-requires
 unfolding terms
 take-set-requires c κs =
     let else-1 = c .before .before .before .before .before .before .before .before in
-    let pre = else-1 .before .before .before .before .before .before .pre in (pre .0, pre .1, else-1 .if1 .left)
+    let pre = else-1 .before .before .before .before .before .pre in (pre .0, pre .1, else-1 .if1 .left)
 
 same-length : tie.Need-same-length
 same-length c = search needs

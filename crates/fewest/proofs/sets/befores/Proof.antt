@@ -6,10 +6,10 @@ use Rattle.fewest.proofs.sets.befores.Statement.{statement}
 use Rattle.fewest.proofs.sets.befores.Tie as tie
 
 abbrev Inv-loop : tie.InvT-loop
-Inv-loop rule starts first b hints₀ low r₀ hints r = length hints ≡ length hints₀
+Inv-loop rule starts first b scratch₀ low r₀ scratch r = length scratch ≡ length scratch₀
 
 abbrev μ-loop : tie.MeasureT-loop
-μ-loop rule starts first b hints₀ low r₀ hints r = r
+μ-loop rule starts first b scratch₀ low r₀ scratch r = r
 
 returns : tie.Need-returns Inv-loop μ-loop
 returns c = search needs

@@ -7,10 +7,10 @@ use Rattle.fewest.proofs.sets.lasts.Statement.{statement}
 use Rattle.fewest.proofs.sets.lasts.Tie as tie
 
 abbrev Inv-loop : tie.InvT-loop
-Inv-loop rule starts first b steps₀ hints₀ n₀ r₀ steps hints n r = length hints ≡ length hints₀
+Inv-loop rule starts first b scratch₀ n₀ r₀ scratch n r = length scratch ≡ length scratch₀
 
 abbrev μ-loop : tie.MeasureT-loop
-μ-loop rule starts first b steps₀ hints₀ n₀ r₀ steps hints n r = b + 1 - r
+μ-loop rule starts first b scratch₀ n₀ r₀ scratch n r = b + 1 - r
 
 returns : tie.Need-returns Inv-loop μ-loop
 returns c = search needs

@@ -6,10 +6,10 @@ use Rattle.fewest.proofs.sets.orders.Statement.{statement}
 use Rattle.fewest.proofs.sets.orders.Tie as tie
 
 abbrev Inv-loop : tie.InvT-loop
-Inv-loop rule starts count first hints₀ whole r₀ hints r = length hints ≡ length hints₀
+Inv-loop rule starts count first scratch₀ whole r₀ scratch r = length scratch ≡ length scratch₀
 
 abbrev μ-loop : tie.MeasureT-loop
-μ-loop rule starts count first hints₀ whole r₀ hints r = r
+μ-loop rule starts count first scratch₀ whole r₀ scratch r = r
 
 less-requires : tie.Need-less-requires Inv-loop μ-loop
 less-requires c κs = search needs

@@ -7,10 +7,10 @@ use Rattle.fewest.proofs.sets.sizes.Statement.{statement}
 use Rattle.fewest.proofs.sets.sizes.Tie as tie
 
 abbrev Inv-loop : tie.InvT-loop
-Inv-loop rule starts count first hints₀ r₀ hints r = length hints ≡ length hints₀
+Inv-loop rule starts count first scratch₀ r₀ scratch r = length scratch ≡ length scratch₀
 
 abbrev μ-loop : tie.MeasureT-loop
-μ-loop rule starts count first hints₀ r₀ hints r = count - r
+μ-loop rule starts count first scratch₀ r₀ scratch r = count - r
 
 loop-holds : tie.Need-loop-holds Inv-loop μ-loop
 loop-holds c = search needs
