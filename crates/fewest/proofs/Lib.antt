@@ -24,3 +24,4 @@ pub mod Readiness
 pub mod Telling
 pub mod Hints
 pub mod Threading
+pub mod Keeping

@@ -12,3 +12,4 @@ pub mod Told
 pub mod Sweep
 pub mod Work
 pub mod Threads
+pub mod Kept

@@ -1,20 +1,18 @@
 // Scratch in the lent byte table: cells of two bytes. Each byte keeps its two low bits, where the marks of the questions stand.
 // The values are the list `cells` of the bytes. Past the end a cell reads 0 and takes nothing.
 use crate::pairs::get;
-use crate::pairs::put;
 use crate::pairs::wide;
 use records::bytes::BASE;
 ghost use mathlib.Core.Path.{_≡_};
-ghost use Prim.Native.Nat.{_<_};
+ghost use Prim.Native.Nat.{_+_, _<_, _≤_};
 ghost use lib.ListN.{length, getD, set};
 ghost use Rattle.fewest.specs.Lows.{lows};
 ghost use Rattle.fewest.specs.Cells.{values, cells};
+ghost use Rattle.fewest.specs.Threads.{free};
+ghost use Rattle.fewest.specs.Kept.{Kept};
 
 // A cell's value is below this; a cell that names nothing has the greatest.
 pub const CELL: usize = HALF * HALF;
-
-// A cell's whole bytes are a number below this: a set of 16 bits.
-const SETS: usize = BASE * BASE;
 
 // Six bits of a byte, above its two low ones.
 const HALF: usize = 64;
@@ -70,12 +68,16 @@ pub fn set_at(scratch: &[u8], i: usize) -> usize {
     get(scratch, i)
 }
 
-// The cell's whole bytes take a set.
-pub fn put_set(scratch: &mut [u8], i: usize, set: usize) {
+// The cell's whole bytes, which are behind the threads, take a set.
+pub fn put_set(scratch: &mut [u8], i: usize, set: usize)
+    requires { ⌜ free ≤ i ⌝ }
+    ensures { λ _. ⌜ Kept (now (scratch .entry)) (now (scratch .exit)) ⌝ }
+{
     if scratch.len() / 2 <= i {
         return;
     }
-    put(scratch, i, set % SETS);
+    scratch[i + i] = (set / BASE % BASE) as u8;
+    scratch[i + i + 1] = (set % BASE) as u8;
 }
 
 // A byte for itself, as the terms of a list stand.
@@ -86,7 +88,11 @@ pub fn byte_at(scratch: &[u8], i: usize) -> usize {
     wide(scratch[i])
 }
 
-pub fn put_byte(scratch: &mut [u8], i: usize, v: usize) {
+// The byte, which is behind the threads, takes a value.
+pub fn put_byte(scratch: &mut [u8], i: usize, v: usize)
+    requires { ⌜ free + free ≤ i ⌝ }
+    ensures { λ _. ⌜ Kept (now (scratch .entry)) (now (scratch .exit)) ⌝ }
+{
     if scratch.len() <= i {
         return;
     }

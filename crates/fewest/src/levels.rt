@@ -48,7 +48,8 @@ use records::rule::record_of;
 use records::site::triple_at;
 ghost use mathlib.Core.Path.{_≡_};
 ghost use mathlib.Core.Logic.{_≢_};
-ghost use Prim.Native.Nat.{_<_};
+ghost use lib.ListN.{length};
+ghost use Prim.Native.Nat.{_*_, _<_};
 ghost use Rattle.meaning.specs.Limits.{terms, records};
 ghost use Rattle.meaning.specs.Move.{self};
 ghost use Rattle.records.specs.Sites.{Accepted, siteOf};
@@ -58,6 +59,8 @@ ghost use Rattle.fewest.specs.Frame.{Climbs, frame};
 ghost use Rattle.fewest.specs.Offer.{Lowers};
 ghost use Rattle.fewest.specs.Table.{Full};
 ghost use Rattle.fewest.specs.Work.{goalOf, Tests, workOf, partsOf, Sits, Ready, Stayed, RecordWorked, Reached, Stepping, Hinted};
+ghost use Rattle.fewest.specs.Threads.{Threads};
+ghost use Rattle.fewest.specs.Kept.{Kept, Levelled};
 
 // Staying at t for record r, where t stands in triple k.
 fn stay<'a>(
@@ -380,7 +383,8 @@ fn climb<'a>(
     }
 }
 
-// Of these steps those after which something is left at t.
+// Of these steps those after which something is left at t. Outside the vocabulary, where a star does not pass empty, only those
+// are open.
 fn possible<'a>(
     up: &'a [u8; RECORDS],
     role: &'a [u8; RECORDS],
@@ -424,6 +428,7 @@ fn possible_one<'a>(
 // These steps are open at t at the level of this side, but for those that were open before. The length of the level.
 fn open(scratch: &mut [u8], side: usize, len: usize, set: usize, t: usize) -> usize
     requires { ⌜ t < terms ⌝ }
+    ensures { λ _. ⌜ Kept (now (scratch .entry)) (now (scratch .exit)) ⌝ }
 {
     let done = set_at(scratch, DONE + t);
     let all = set | done;
@@ -463,7 +468,7 @@ fn rise<'a>(
     len: usize,
 ) -> usize
     requires { ⌜ Ready (now site) triples (now rule) (now starts) count (now up) (now role) (now first) × Full (now numbers) × (r < records) × (t < terms) ⌝ }
-    ensures { λ _. ⌜ Hinted (now (site .entry)) triples (now (rule .entry)) (now (up .entry)) (now (role .entry)) (now (first .entry)) (goalOf goal) (now (numbers .entry)) (now (numbers .exit)) ⌝ }
+    ensures { λ _. ⌜ Levelled (now (site .entry)) triples (now (rule .entry)) (now (up .entry)) (now (role .entry)) (now (first .entry)) (goalOf goal) (now (numbers .entry)) (now (numbers .exit)) (now (scratch .entry)) (now (scratch .exit)) ⌝ }
 {
     let k = witness(scratch, t);
     climb(
@@ -534,7 +539,7 @@ fn take<'a>(
     len: usize,
 ) -> usize
     requires { ⌜ Ready (now site) triples (now rule) (now starts) count (now up) (now role) (now first) × Full (now numbers) × (r < count) × (k < triples) × Stepping (now rule) (now starts) r step × (step .axis ≢ 0) × (parts ≡ partsOf (step .axis)) ⌝ }
-    ensures { λ _. ⌜ Hinted (now (site .entry)) triples (now (rule .entry)) (now (up .entry)) (now (role .entry)) (now (first .entry)) (goalOf goal) (now (numbers .entry)) (now (numbers .exit)) ⌝ }
+    ensures { λ _. ⌜ Levelled (now (site .entry)) triples (now (rule .entry)) (now (up .entry)) (now (role .entry)) (now (first .entry)) (goalOf goal) (now (numbers .entry)) (now (numbers .exit)) (now (scratch .entry)) (now (scratch .exit)) ⌝ }
 {
     let label = step.label;
     let m = move_at(site, k, parts);
@@ -581,7 +586,7 @@ fn take_all<'a>(
     was: usize,
 ) -> usize
     requires { ⌜ Ready (now site) triples (now rule) (now starts) count (now up) (now role) (now first) × Full (now numbers) × (r < count) × (u < terms) × Stepping (now rule) (now starts) r step × (step .axis ≢ 0) ⌝ }
-    ensures { λ _. ⌜ Hinted (now (site .entry)) triples (now (rule .entry)) (now (up .entry)) (now (role .entry)) (now (first .entry)) (goalOf goal) (now (numbers .entry)) (now (numbers .exit)) ⌝ }
+    ensures { λ _. ⌜ Levelled (now (site .entry)) triples (now (rule .entry)) (now (up .entry)) (now (role .entry)) (now (first .entry)) (goalOf goal) (now (numbers .entry)) (now (numbers .exit)) (now (scratch .entry)) (now (scratch .exit)) ⌝ }
 {
     let axis = step.axis;
     let parts = parts_of(axis);
@@ -657,7 +662,7 @@ fn take_step<'a>(
     len: usize,
 ) -> usize
     requires { ⌜ Ready (now site) triples (now rule) (now starts) count (now up) (now role) (now first) × Full (now numbers) × (r < count) × (u < terms) × Stepping (now rule) (now starts) r step ⌝ }
-    ensures { λ _. ⌜ Hinted (now (site .entry)) triples (now (rule .entry)) (now (up .entry)) (now (role .entry)) (now (first .entry)) (goalOf goal) (now (numbers .entry)) (now (numbers .exit)) ⌝ }
+    ensures { λ _. ⌜ Levelled (now (site .entry)) triples (now (rule .entry)) (now (up .entry)) (now (role .entry)) (now (first .entry)) (goalOf goal) (now (numbers .entry)) (now (numbers .exit)) (now (scratch .entry)) (now (scratch .exit)) ⌝ }
 {
     if step.axis != 0 {
         return take_all(
@@ -722,7 +727,7 @@ fn take_record<'a>(
     len: usize,
 ) -> usize
     requires { ⌜ Ready (now site) triples (now rule) (now starts) count (now up) (now role) (now first) × Full (now numbers) × (u < terms) ⌝ }
-    ensures { λ _. ⌜ Hinted (now (site .entry)) triples (now (rule .entry)) (now (up .entry)) (now (role .entry)) (now (first .entry)) (goalOf goal) (now (numbers .entry)) (now (numbers .exit)) ⌝ }
+    ensures { λ _. ⌜ Levelled (now (site .entry)) triples (now (rule .entry)) (now (up .entry)) (now (role .entry)) (now (first .entry)) (goalOf goal) (now (numbers .entry)) (now (numbers .exit)) (now (scratch .entry)) (now (scratch .exit)) ⌝ }
 {
     if count <= r {
         return len;
@@ -771,7 +776,7 @@ fn take_set<'a>(
     was: usize,
 ) -> usize
     requires { ⌜ Ready (now site) triples (now rule) (now starts) count (now up) (now role) (now first) × Full (now numbers) × (u < terms) ⌝ }
-    ensures { λ _. ⌜ Hinted (now (site .entry)) triples (now (rule .entry)) (now (up .entry)) (now (role .entry)) (now (first .entry)) (goalOf goal) (now (numbers .entry)) (now (numbers .exit)) ⌝ }
+    ensures { λ _. ⌜ Levelled (now (site .entry)) triples (now (rule .entry)) (now (up .entry)) (now (role .entry)) (now (first .entry)) (goalOf goal) (now (numbers .entry)) (now (numbers .exit)) (now (scratch .entry)) (now (scratch .exit)) ⌝ }
 {
     let mut len = was;
     let mut rest = set;
@@ -817,7 +822,7 @@ fn take_term<'a>(
     len: usize,
 ) -> usize
     requires { ⌜ Ready (now site) triples (now rule) (now starts) count (now up) (now role) (now first) × Full (now numbers) ⌝ }
-    ensures { λ _. ⌜ Hinted (now (site .entry)) triples (now (rule .entry)) (now (up .entry)) (now (role .entry)) (now (first .entry)) (goalOf goal) (now (numbers .entry)) (now (numbers .exit)) ⌝ }
+    ensures { λ _. ⌜ Levelled (now (site .entry)) triples (now (rule .entry)) (now (up .entry)) (now (role .entry)) (now (first .entry)) (goalOf goal) (now (numbers .entry)) (now (numbers .exit)) (now (scratch .entry)) (now (scratch .exit)) ⌝ }
 {
     if TERMS <= u {
         return len;
@@ -860,7 +865,7 @@ fn level<'a>(
     len: usize,
 ) -> usize
     requires { ⌜ Ready (now site) triples (now rule) (now starts) count (now up) (now role) (now first) × Full (now numbers) ⌝ }
-    ensures { λ _. ⌜ Hinted (now (site .entry)) triples (now (rule .entry)) (now (up .entry)) (now (role .entry)) (now (first .entry)) (goalOf goal) (now (numbers .entry)) (now (numbers .exit)) ⌝ }
+    ensures { λ _. ⌜ Levelled (now (site .entry)) triples (now (rule .entry)) (now (up .entry)) (now (role .entry)) (now (first .entry)) (goalOf goal) (now (numbers .entry)) (now (numbers .exit)) (now (scratch .entry)) (now (scratch .exit)) ⌝ }
 {
     let mut next = 0;
     let mut i = 0;
@@ -905,7 +910,7 @@ fn begin<'a>(
     len: usize,
 ) -> usize
     requires { ⌜ Ready (now site) triples (now rule) (now starts) count (now up) (now role) (now first) × Full (now numbers) × (t < terms) ⌝ }
-    ensures { λ _. ⌜ Hinted (now (site .entry)) triples (now (rule .entry)) (now (up .entry)) (now (role .entry)) (now (first .entry)) (goalOf goal) (now (numbers .entry)) (now (numbers .exit)) ⌝ }
+    ensures { λ _. ⌜ Levelled (now (site .entry)) triples (now (rule .entry)) (now (up .entry)) (now (role .entry)) (now (first .entry)) (goalOf goal) (now (numbers .entry)) (now (numbers .exit)) (now (scratch .entry)) (now (scratch .exit)) ⌝ }
 {
     let k = witness(scratch, t);
     let all = last_in(scratch, b);
@@ -952,7 +957,7 @@ fn finish_at<'a>(
     t: usize,
 )
     requires { ⌜ Ready (now site) triples (now rule) (now starts) count (now up) (now role) (now first) × Full (now numbers) × (t < terms) ⌝ }
-    ensures { λ _. ⌜ Hinted (now (site .entry)) triples (now (rule .entry)) (now (up .entry)) (now (role .entry)) (now (first .entry)) (goalOf goal) (now (numbers .entry)) (now (numbers .exit)) ⌝ }
+    ensures { λ _. ⌜ Levelled (now (site .entry)) triples (now (rule .entry)) (now (up .entry)) (now (role .entry)) (now (first .entry)) (goalOf goal) (now (numbers .entry)) (now (numbers .exit)) (now (scratch .entry)) (now (scratch .exit)) ⌝ }
 {
     let k = witness(scratch, t);
     if triples <= k {
@@ -993,7 +998,7 @@ fn finish_all<'a>(
     b: usize,
 )
     requires { ⌜ Ready (now site) triples (now rule) (now starts) count (now up) (now role) (now first) × Full (now numbers) ⌝ }
-    ensures { λ _. ⌜ Hinted (now (site .entry)) triples (now (rule .entry)) (now (up .entry)) (now (role .entry)) (now (first .entry)) (goalOf goal) (now (numbers .entry)) (now (numbers .exit)) ⌝ }
+    ensures { λ _. ⌜ Levelled (now (site .entry)) triples (now (rule .entry)) (now (up .entry)) (now (role .entry)) (now (first .entry)) (goalOf goal) (now (numbers .entry)) (now (numbers .exit)) (now (scratch .entry)) (now (scratch .exit)) ⌝ }
 {
     let mut t = 0;
     while t < TERMS {
@@ -1017,7 +1022,9 @@ fn finish_all<'a>(
 }
 
 // These steps are not opened again at any term.
-fn close_all(scratch: &mut [u8], set: usize) {
+fn close_all(scratch: &mut [u8], set: usize)
+    ensures { λ _. ⌜ Kept (now (scratch .entry)) (now (scratch .exit)) ⌝ }
+{
     let mut t = 0;
     while t < TERMS {
         put_set(scratch, DONE + t, set);
@@ -1041,7 +1048,7 @@ fn finish<'a>(
     b: usize,
 )
     requires { ⌜ Ready (now site) triples (now rule) (now starts) count (now up) (now role) (now first) × Full (now numbers) ⌝ }
-    ensures { λ _. ⌜ Hinted (now (site .entry)) triples (now (rule .entry)) (now (up .entry)) (now (role .entry)) (now (first .entry)) (goalOf goal) (now (numbers .entry)) (now (numbers .exit)) ⌝ }
+    ensures { λ _. ⌜ Levelled (now (site .entry)) triples (now (rule .entry)) (now (up .entry)) (now (role .entry)) (now (first .entry)) (goalOf goal) (now (numbers .entry)) (now (numbers .exit)) (now (scratch .entry)) (now (scratch .exit)) ⌝ }
 {
     if ends_in_star(scratch, b) {
         finish_all(
@@ -1171,7 +1178,7 @@ fn rise_if<'a>(
     len: usize,
 ) -> usize
     requires { ⌜ Ready (now site) triples (now rule) (now starts) count (now up) (now role) (now first) × Full (now numbers) × (r < records) × (t < terms) ⌝ }
-    ensures { λ _. ⌜ Hinted (now (site .entry)) triples (now (rule .entry)) (now (up .entry)) (now (role .entry)) (now (first .entry)) (goalOf goal) (now (numbers .entry)) (now (numbers .exit)) ⌝ }
+    ensures { λ _. ⌜ Levelled (now (site .entry)) triples (now (rule .entry)) (now (up .entry)) (now (role .entry)) (now (first .entry)) (goalOf goal) (now (numbers .entry)) (now (numbers .exit)) (now (scratch .entry)) (now (scratch .exit)) ⌝ }
 {
     if number(numbers, r, t) < NONE {
         return rise(
@@ -1212,7 +1219,7 @@ fn rise_all<'a>(
     was: usize,
 ) -> usize
     requires { ⌜ Ready (now site) triples (now rule) (now starts) count (now up) (now role) (now first) × Full (now numbers) × (r < records) ⌝ }
-    ensures { λ _. ⌜ Hinted (now (site .entry)) triples (now (rule .entry)) (now (up .entry)) (now (role .entry)) (now (first .entry)) (goalOf goal) (now (numbers .entry)) (now (numbers .exit)) ⌝ }
+    ensures { λ _. ⌜ Levelled (now (site .entry)) triples (now (rule .entry)) (now (up .entry)) (now (role .entry)) (now (first .entry)) (goalOf goal) (now (numbers .entry)) (now (numbers .exit)) (now (scratch .entry)) (now (scratch .exit)) ⌝ }
 {
     let mut len = was;
     let mut t = 0;
@@ -1254,7 +1261,7 @@ fn begin_all<'a>(
     b: usize,
 ) -> usize
     requires { ⌜ Ready (now site) triples (now rule) (now starts) count (now up) (now role) (now first) × Full (now numbers) ⌝ }
-    ensures { λ _. ⌜ Hinted (now (site .entry)) triples (now (rule .entry)) (now (up .entry)) (now (role .entry)) (now (first .entry)) (goalOf goal) (now (numbers .entry)) (now (numbers .exit)) ⌝ }
+    ensures { λ _. ⌜ Levelled (now (site .entry)) triples (now (rule .entry)) (now (up .entry)) (now (role .entry)) (now (first .entry)) (goalOf goal) (now (numbers .entry)) (now (numbers .exit)) (now (scratch .entry)) (now (scratch .exit)) ⌝ }
 {
     finish(
         site,
@@ -1325,7 +1332,7 @@ fn begin_body<'a>(
     b: usize,
 ) -> usize
     requires { ⌜ Ready (now site) triples (now rule) (now starts) count (now up) (now role) (now first) × Full (now numbers) × (b < records) ⌝ }
-    ensures { λ _. ⌜ Hinted (now (site .entry)) triples (now (rule .entry)) (now (up .entry)) (now (role .entry)) (now (first .entry)) (goalOf goal) (now (numbers .entry)) (now (numbers .exit)) ⌝ }
+    ensures { λ _. ⌜ Levelled (now (site .entry)) triples (now (rule .entry)) (now (up .entry)) (now (role .entry)) (now (first .entry)) (goalOf goal) (now (numbers .entry)) (now (numbers .exit)) (now (scratch .entry)) (now (scratch .exit)) ⌝ }
 {
     if role[b] == AS_WHOLE {
         if let Goal::End(end) = goal {
@@ -1379,7 +1386,7 @@ fn begin_if<'a>(
     end: usize,
 ) -> usize
     requires { ⌜ Ready (now site) triples (now rule) (now starts) count (now up) (now role) (now first) × Full (now numbers) ⌝ }
-    ensures { λ _. ⌜ Hinted (now (site .entry)) triples (now (rule .entry)) (now (up .entry)) (now (role .entry)) (now (first .entry)) (goalOf goal) (now (numbers .entry)) (now (numbers .exit)) ⌝ }
+    ensures { λ _. ⌜ Levelled (now (site .entry)) triples (now (rule .entry)) (now (up .entry)) (now (role .entry)) (now (first .entry)) (goalOf goal) (now (numbers .entry)) (now (numbers .exit)) (now (scratch .entry)) (now (scratch .exit)) ⌝ }
 {
     if TERMS <= end {
         return 0;
@@ -1403,7 +1410,9 @@ fn begin_if<'a>(
 }
 
 // No step is open, and none ever was.
-fn shut_all(scratch: &mut [u8]) {
+fn shut_all(scratch: &mut [u8])
+    ensures { λ _. ⌜ Kept (now (scratch .entry)) (now (scratch .exit)) ⌝ }
+{
     let mut t = 0;
     while t < TERMS {
         put_set(scratch, OPEN + t, 0);
@@ -1429,7 +1438,7 @@ fn run_levels<'a>(
     begun: usize,
 )
     requires { ⌜ Ready (now site) triples (now rule) (now starts) count (now up) (now role) (now first) × Full (now numbers) ⌝ }
-    ensures { λ _. ⌜ Hinted (now (site .entry)) triples (now (rule .entry)) (now (up .entry)) (now (role .entry)) (now (first .entry)) (goalOf goal) (now (numbers .entry)) (now (numbers .exit)) ⌝ }
+    ensures { λ _. ⌜ Levelled (now (site .entry)) triples (now (rule .entry)) (now (up .entry)) (now (role .entry)) (now (first .entry)) (goalOf goal) (now (numbers .entry)) (now (numbers .exit)) (now (scratch .entry)) (now (scratch .exit)) ⌝ }
 {
     let mut len = begun;
     let mut side = 0;
@@ -1465,6 +1474,7 @@ fn prepare<'a>(
     b: usize,
 )
     requires { ⌜ b < records ⌝ }
+    ensures { λ _. ⌜ Kept (now (scratch .entry)) (now (scratch .exit)) ⌝ }
 {
     lasts(rule, starts, first, b, scratch);
     befores(rule, starts, first, b, scratch);
@@ -1487,7 +1497,7 @@ fn search<'a>(
     b: usize,
 )
     requires { ⌜ Ready (now site) triples (now rule) (now starts) count (now up) (now role) (now first) × Full (now numbers) × (b < records) ⌝ }
-    ensures { λ _. ⌜ Hinted (now (site .entry)) triples (now (rule .entry)) (now (up .entry)) (now (role .entry)) (now (first .entry)) (goalOf goal) (now (numbers .entry)) (now (numbers .exit)) ⌝ }
+    ensures { λ _. ⌜ Levelled (now (site .entry)) triples (now (rule .entry)) (now (up .entry)) (now (role .entry)) (now (first .entry)) (goalOf goal) (now (numbers .entry)) (now (numbers .exit)) (now (scratch .entry)) (now (scratch .exit)) ⌝ }
 {
     prepare(rule, starts, first, scratch, b);
     let begun = begin_body(
@@ -1536,7 +1546,7 @@ fn search_if<'a>(
     b: usize,
 )
     requires { ⌜ Ready (now site) triples (now rule) (now starts) count (now up) (now role) (now first) × Full (now numbers) × (b < records) ⌝ }
-    ensures { λ _. ⌜ Hinted (now (site .entry)) triples (now (rule .entry)) (now (up .entry)) (now (role .entry)) (now (first .entry)) (goalOf goal) (now (numbers .entry)) (now (numbers .exit)) ⌝ }
+    ensures { λ _. ⌜ Levelled (now (site .entry)) triples (now (rule .entry)) (now (up .entry)) (now (role .entry)) (now (first .entry)) (goalOf goal) (now (numbers .entry)) (now (numbers .exit)) (now (scratch .entry)) (now (scratch .exit)) ⌝ }
 {
     if root_of(scratch, b) == b {
         search(
@@ -1571,7 +1581,7 @@ fn search_all<'a>(
     numbers: &mut [u8],
 )
     requires { ⌜ Ready (now site) triples (now rule) (now starts) count (now up) (now role) (now first) × Full (now numbers) ⌝ }
-    ensures { λ _. ⌜ Hinted (now (site .entry)) triples (now (rule .entry)) (now (up .entry)) (now (role .entry)) (now (first .entry)) (goalOf goal) (now (numbers .entry)) (now (numbers .exit)) ⌝ }
+    ensures { λ _. ⌜ Levelled (now (site .entry)) triples (now (rule .entry)) (now (up .entry)) (now (role .entry)) (now (first .entry)) (goalOf goal) (now (numbers .entry)) (now (numbers .exit)) (now (scratch .entry)) (now (scratch .exit)) ⌝ }
 {
     let mut b = 0;
     while b < RECORDS {
@@ -1596,7 +1606,7 @@ fn search_all<'a>(
     }
 }
 
-// The whole table.
+// The whole table. The threads stand afterwards.
 pub fn levels<'a>(
     site: &[u8],
     triples: usize,
@@ -1611,7 +1621,7 @@ pub fn levels<'a>(
     numbers: &mut [u8],
 )
     requires { ⌜ Ready (now site) triples (now rule) (now starts) count (now up) (now role) (now first) × Full (now numbers) ⌝ }
-    ensures { λ _. ⌜ Hinted (now (site .entry)) triples (now (rule .entry)) (now (up .entry)) (now (role .entry)) (now (first .entry)) (goalOf goal) (now (numbers .entry)) (now (numbers .exit)) ⌝ }
+    ensures { λ _. ⌜ Hinted (now (site .entry)) triples (now (rule .entry)) (now (up .entry)) (now (role .entry)) (now (first .entry)) (goalOf goal) (now (numbers .entry)) (now (numbers .exit)) × (length (now (scratch .entry)) ≡ records * terms → Threads (now (site .entry)) triples (now (scratch .exit))) ⌝ }
 {
     thread(site, triples, scratch);
     sizes(rule, starts, count, first, scratch);

@@ -11,6 +11,7 @@ use records::TERMS;
 use records::rule::record_of;
 ghost use Prim.Native.Nat.{_<_};
 ghost use Rattle.meaning.specs.Limits.{records};
+ghost use Rattle.fewest.specs.Kept.{Kept};
 
 // Scratch behind the threads, in cells: for two levels by turns, which steps are open at a term; which ever were; the lists of both
 // levels, a byte for a term; and the columns of the hints.
@@ -53,7 +54,9 @@ fn hint(scratch: &[u8], i: usize) -> usize {
     set_at(scratch, HINTS + i % COLUMNS)
 }
 
-fn put_hint(scratch: &mut [u8], i: usize, v: usize) {
+fn put_hint(scratch: &mut [u8], i: usize, v: usize)
+    ensures { λ _. ⌜ Kept (now (scratch .entry)) (now (scratch .exit)) ⌝ }
+{
     put_set(scratch, HINTS + i % COLUMNS, v);
 }
 
@@ -158,7 +161,9 @@ fn sized(rec: Record, first: usize, second: usize, scratch: &[u8]) -> usize {
 }
 
 // Record r stands at this place, in the body of this root, below this parent.
-fn stand(scratch: &mut [u8], r: usize, place: usize, root: usize, parent: usize) {
+fn stand(scratch: &mut [u8], r: usize, place: usize, root: usize, parent: usize)
+    ensures { λ _. ⌜ Kept (now (scratch .entry)) (now (scratch .exit)) ⌝ }
+{
     put_hint(scratch, PLACE + r % RECORDS, place);
     put_hint(scratch, ORDER + place % RECORDS, r);
     put_hint(scratch, ROOT + r % RECORDS, root);
@@ -166,7 +171,9 @@ fn stand(scratch: &mut [u8], r: usize, place: usize, root: usize, parent: usize)
 }
 
 // The operands of record r take their places before it.
-fn order(rec: Record, first: usize, second: usize, r: usize, scratch: &mut [u8]) {
+fn order(rec: Record, first: usize, second: usize, r: usize, scratch: &mut [u8])
+    ensures { λ _. ⌜ Kept (now (scratch .entry)) (now (scratch .exit)) ⌝ }
+{
     let place = less(place_of(scratch, r), 1);
     let root = root_of(scratch, r);
     match rec {
@@ -184,14 +191,9 @@ fn order(rec: Record, first: usize, second: usize, r: usize, scratch: &mut [u8])
     }
 }
 
-fn order_join(
-    first: usize,
-    second: usize,
-    place: usize,
-    root: usize,
-    r: usize,
-    scratch: &mut [u8],
-) {
+fn order_join(first: usize, second: usize, place: usize, root: usize, r: usize, scratch: &mut [u8])
+    ensures { λ _. ⌜ Kept (now (scratch .entry)) (now (scratch .exit)) ⌝ }
+{
     stand(scratch, first, place, root, r);
     let size = size_of(scratch, first);
     stand(scratch, second, less(place, size), root, r);
@@ -209,7 +211,9 @@ fn size_at<'a>(
     first: &'a [u8; RECORDS],
     r: usize,
     scratch: &mut [u8],
-) {
+)
+    ensures { λ _. ⌜ Kept (now (scratch .entry)) (now (scratch .exit)) ⌝ }
+{
     if RECORDS <= r {
         return;
     }
@@ -228,7 +232,9 @@ fn order_at<'a>(
     first: &'a [u8; RECORDS],
     r: usize,
     scratch: &mut [u8],
-) {
+)
+    ensures { λ _. ⌜ Kept (now (scratch .entry)) (now (scratch .exit)) ⌝ }
+{
     if RECORDS <= r {
         return;
     }
@@ -248,7 +254,9 @@ pub fn sizes<'a>(
     count: usize,
     first: &'a [u8; RECORDS],
     scratch: &mut [u8],
-) {
+)
+    ensures { λ _. ⌜ Kept (now (scratch .entry)) (now (scratch .exit)) ⌝ }
+{
     let mut r = 0;
     while r < count {
         size_at(rule, starts, first, r, scratch);
@@ -263,7 +271,9 @@ pub fn orders<'a>(
     count: usize,
     first: &'a [u8; RECORDS],
     scratch: &mut [u8],
-) {
+)
+    ensures { λ _. ⌜ Kept (now (scratch .entry)) (now (scratch .exit)) ⌝ }
+{
     let whole = less(count, 1);
     stand(scratch, whole, whole, whole, 0);
     let mut r = count;
@@ -281,7 +291,9 @@ fn last_of(
     r: usize,
     n: usize,
     scratch: &mut [u8],
-) -> usize {
+) -> usize
+    ensures { λ _. ⌜ Kept (now (scratch .entry)) (now (scratch .exit)) ⌝ }
+{
     match rec {
         Record::Step(_) => {
             put_hint(scratch, STEPS + n % RECORDS, r);
@@ -308,7 +320,9 @@ fn last_of(
 }
 
 // The steps that may come before the operands of record r.
-fn before_of(rec: Record, first: usize, second: usize, r: usize, scratch: &mut [u8]) {
+fn before_of(rec: Record, first: usize, second: usize, r: usize, scratch: &mut [u8])
+    ensures { λ _. ⌜ Kept (now (scratch .entry)) (now (scratch .exit)) ⌝ }
+{
     let set = before(scratch, r);
     match rec {
         Record::Step(_) => {}
@@ -337,7 +351,9 @@ fn last_if<'a>(
     r: usize,
     n: usize,
     scratch: &mut [u8],
-) -> usize {
+) -> usize
+    ensures { λ _. ⌜ Kept (now (scratch .entry)) (now (scratch .exit)) ⌝ }
+{
     if RECORDS <= r {
         return n;
     }
@@ -361,7 +377,9 @@ fn before_if<'a>(
     b: usize,
     r: usize,
     scratch: &mut [u8],
-) {
+)
+    ensures { λ _. ⌜ Kept (now (scratch .entry)) (now (scratch .exit)) ⌝ }
+{
     if RECORDS <= r {
         return;
     }
@@ -383,7 +401,9 @@ pub fn lasts<'a>(
     first: &'a [u8; RECORDS],
     b: usize,
     scratch: &mut [u8],
-) {
+)
+    ensures { λ _. ⌜ Kept (now (scratch .entry)) (now (scratch .exit)) ⌝ }
+{
     if RECORDS <= b {
         return;
     }
@@ -402,7 +422,9 @@ pub fn befores<'a>(
     first: &'a [u8; RECORDS],
     b: usize,
     scratch: &mut [u8],
-) {
+)
+    ensures { λ _. ⌜ Kept (now (scratch .entry)) (now (scratch .exit)) ⌝ }
+{
     if RECORDS <= b {
         return;
     }

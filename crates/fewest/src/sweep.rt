@@ -14,7 +14,7 @@ use records::TERMS;
 use records::rule::record_of;
 ghost use mathlib.Core.Path.{_≡_};
 ghost use Prim.Native.Nat.{_*_, _<_};
-ghost use lib.ListN.{replicate};
+ghost use lib.ListN.{length, replicate};
 ghost use Rattle.meaning.specs.Limits.{terms, records, none};
 ghost use Rattle.records.specs.Sites.{Accepted, siteOf};
 ghost use Rattle.records.specs.Words.{WordsOf};
@@ -22,6 +22,7 @@ ghost use Rattle.fewest.specs.Pairs.{pairs};
 ghost use Rattle.fewest.specs.Frame.{Climbs};
 ghost use Rattle.fewest.specs.Table.{Full};
 ghost use Rattle.fewest.specs.Work.{goalOf, Tests, RowSwept, RestsSwept, AxisSwept, StepSwept, Sits, RecordSwept, Ready, SweptOver, SettledOver};
+ghost use Rattle.fewest.specs.Threads.{Threads};
 
 // Row r is lowered to row a, place by place.
 fn sweep_row(numbers: &mut [u8], r: usize, a: usize, was: bool) -> bool
@@ -242,8 +243,8 @@ pub fn clear(numbers: &mut [u8])
     }
 }
 
-// The number table: every entry none, then sweeps until one changes nothing. The byte table is lent as scratch; nothing is
-// said of what it holds afterwards.
+// The number table: every entry none, then sweeps until one changes nothing. The byte table is lent as scratch, and has the
+// threads afterwards.
 pub fn fill<'a>(
     site: &[u8],
     triples: usize,
@@ -259,7 +260,7 @@ pub fn fill<'a>(
     numbers: &mut [u8],
 )
     requires { ⌜ Ready (now site) triples (now rule) (now starts) count (now up) (now role) (now first) × Full (now numbers) × WordsOf (siteOf (now site) triples) (now words) ⌝ }
-    ensures { λ _. ⌜ SettledOver (now (site .entry)) triples (now (rule .entry)) (now (up .entry)) (now (role .entry)) (now (first .entry)) (goalOf goal) (replicate (records * terms) none) (pairs (now (numbers .exit))) ⌝ }
+    ensures { λ _. ⌜ SettledOver (now (site .entry)) triples (now (rule .entry)) (now (up .entry)) (now (role .entry)) (now (first .entry)) (goalOf goal) (replicate (records * terms) none) (pairs (now (numbers .exit))) × (length (now (scratch .entry)) ≡ records * terms → Threads (now (site .entry)) triples (now (scratch .exit))) ⌝ }
 {
     clear(numbers);
     levels(

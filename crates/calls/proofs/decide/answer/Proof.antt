@@ -23,7 +23,7 @@ show-requires : tie.Need-show-requires
 show-requires c κs =
     let pre = c .before .before .before .before .before .before .before .before .before .before .before .before .before .before .before .before .before .pre in
     let tables = c .before .before .before .before .before .before .before .fill .kept .1 .1 .1 .1 .1 .1 .1 .1 .1 .1 in
-    (pre .0, c .before .before .before .before .before .before .before .fill .ensures, pre .1, record { asked-fits = tables .0 ∙ pre .3 .asked-fits; numbers-fit = tables .1 .0 ∙ pre .3 .numbers-fit }, pre .4)
+    (pre .0, c .before .before .before .before .before .before .before .fill .ensures .0, pre .1, record { asked-fits = tables .0 ∙ pre .3 .asked-fits; numbers-fit = tables .1 .0 ∙ pre .3 .numbers-fit }, pre .4)
 
 slice-relend-prefix-ask : tie.Need-slice-relend-prefix-ask
 slice-relend-prefix-ask c = omega arith
@@ -44,7 +44,7 @@ finish-requires c κs =
     let numbers = c .before .before .before .before .before .before .before .before .before .before .before .before .before .before .before .before .before .before .before .before .before .before .fill .last .1 .1 .1 .1 .1 .1 .1 .1 .1 .1 .1 .0 in
     let ends = c .before .before .before .before .before .ask .last .1 .1 .1 .1 .1 .1 .1 .1 .1 .1 .1 .1 .0 in
     let kept = c .before .before .before .before .before .ask .kept .1 .1 .1 .1 .1 .1 .1 .1 .1 .1 .1 .1 .0 in
-    let E = no-ends numbers ends kept refl (c .before .before .before .before .before .before .before .before .before .before .before .before .before .before .before .before .before .before .before .before .before .before .fill .ensures) (c .before .before .before .before .before .ask .ensures) in
+    let E = no-ends numbers ends kept refl (c .before .before .before .before .before .before .before .before .before .before .before .before .before .before .before .before .before .before .before .before .before .before .fill .ensures .0) (c .before .before .before .before .before .ask .ensures) in
     finished-bits (pre .0) E (pre .1)
 
 same-length : tie.Need-same-length
@@ -64,7 +64,7 @@ returns c =
     let numbers = c .before .before .before .before .before .before .before .before .before .before .before .before .before .before .before .before .before .before .before .before .before .before .before .fill .last .1 .1 .1 .1 .1 .1 .1 .1 .1 .1 .1 .0 in
     let ends = c .before .before .before .before .before .before .ask .last .1 .1 .1 .1 .1 .1 .1 .1 .1 .1 .1 .1 .0 in
     let kept = c .before .before .before .before .before .before .ask .kept .1 .1 .1 .1 .1 .1 .1 .1 .1 .1 .1 .1 .0 in
-    let E = no-ends numbers ends kept refl (c .before .before .before .before .before .before .before .before .before .before .before .before .before .before .before .before .before .before .before .before .before .before .before .fill .ensures) (c .before .before .before .before .before .before .ask .ensures) in
+    let E = no-ends numbers ends kept refl (c .before .before .before .before .before .before .before .before .before .before .before .before .before .before .before .before .before .before .before .before .before .before .before .fill .ensures .0) (c .before .before .before .before .before .before .ask .ensures) in
     rw (none-before ends (c .before .before .before .before .before .before .before .before .before .before .before .before .before .before .before .show .last .1 .1 .1 .1 .1 .1 .1 .1 .1 .1 .1 .1 .0) kept, c .finish .ensures)
     (finished (pre .0) E (pre .1) as-bytes (c .before .before .before .before .before .before .before .before .before .before .before .before .before .before .before .before .before .before .before .before .before .before .before .before .before .before .before .before .before .before .before .before .before .args .room .now) (pre .3) (pre .4) (pre .2) (tables .1 .0 ∙ pre .3 .numbers-fit) (c .before .before .before .before .before .before .before .before .before .before .before .before .before .before .before .show .ensures) (λ i h. omega (arith, pre .4)))
 

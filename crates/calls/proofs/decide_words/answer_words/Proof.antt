@@ -24,7 +24,7 @@ unfolding Whole Full
 show-words-requires c κs =
     let pre = c .before .before .before .before .before .before .before .before .before .before .before .before .before .before .before .before .before .before .before .pre in
     let tables = c .before .before .before .before .before .before .before .fill .kept .1 .1 .1 .1 .1 .1 .1 .1 .1 .1 in
-    (pre .0, c .before .before .before .before .before .before .before .fill .ensures, pre .1, tables .0 ∙ pre .3 .asked-fits, tables .1 .0 ∙ pre .4, record { numbers = length (c .before .before .before .before .before .before .before .before .before .before .before .before .before .before .before .before .before .before .before .args .room .now); long = refl; enough = omega arith })
+    (pre .0, c .before .before .before .before .before .before .before .fill .ensures .0, pre .1, tables .0 ∙ pre .3 .asked-fits, tables .1 .0 ∙ pre .4, record { numbers = length (c .before .before .before .before .before .before .before .before .before .before .before .before .before .before .before .before .before .before .before .args .room .now); long = refl; enough = omega arith })
 
 ask-requires : tie.Need-ask-requires
 unfolding Full Whole
@@ -46,7 +46,7 @@ finish-requires c κs =
     let numbers = c .before .before .before .before .before .before .before .before .before .before .before .before .before .before .before .before .before .before .before .before .before .before .before .before .before .before .before .fill .last .1 .1 .1 .1 .1 .1 .1 .1 .1 .1 .1 .0 in
     let ends = c .before .before .before .before .before .before .before .before .before .before .ask .last .1 .1 .1 .1 .1 .1 .1 .1 .1 .1 .1 .1 .0 in
     let kept = c .before .before .before .before .before .before .before .before .before .before .ask .kept .1 .1 .1 .1 .1 .1 .1 .1 .1 .1 .1 .1 .0 in
-    let E = no-ends numbers ends kept (pre .5) (c .before .before .before .before .before .before .before .before .before .before .before .before .before .before .before .before .before .before .before .before .before .before .before .before .before .before .before .fill .ensures) (c .before .before .before .before .before .before .before .before .before .before .ask .ensures) in
+    let E = no-ends numbers ends kept (pre .5) (c .before .before .before .before .before .before .before .before .before .before .before .before .before .before .before .before .before .before .before .before .before .before .before .before .before .before .before .fill .ensures .0) (c .before .before .before .before .before .before .before .before .before .before .ask .ensures) in
     finished-bits (pre .0) E (pre .1)
 
 same-length : tie.Need-same-length
@@ -72,7 +72,7 @@ returns c =
     let numbers = c .before .before .before .before .before .before .before .before .before .before .before .before .before .before .before .before .before .before .before .before .before .before .before .before .before .before .before .before .fill .last .1 .1 .1 .1 .1 .1 .1 .1 .1 .1 .1 .0 in
     let ends = c .before .before .before .before .before .before .before .before .before .before .before .ask .last .1 .1 .1 .1 .1 .1 .1 .1 .1 .1 .1 .1 .0 in
     let kept = c .before .before .before .before .before .before .before .before .before .before .before .ask .kept .1 .1 .1 .1 .1 .1 .1 .1 .1 .1 .1 .1 .0 in
-    let E = no-ends numbers ends kept (pre .5) (c .before .before .before .before .before .before .before .before .before .before .before .before .before .before .before .before .before .before .before .before .before .before .before .before .before .before .before .before .fill .ensures) (c .before .before .before .before .before .before .before .before .before .before .before .ask .ensures) in
+    let E = no-ends numbers ends kept (pre .5) (c .before .before .before .before .before .before .before .before .before .before .before .before .before .before .before .before .before .before .before .before .before .before .before .before .before .before .before .before .fill .ensures .0) (c .before .before .before .before .before .before .before .before .before .before .before .ask .ensures) in
     rw (c .before .before .before .before .copy-back .ensures, c .finish .ensures)
     (finished (pre .0) E (pre .1) as-words (c .before .before .before .before .before .before .before .before .before .before .before .before .before .before .before .before .before .before .before .before .before .before .before .before .before .before .before .before .before .before .before .before .before .before .before .before .before .before .before .before .args .room .now) (pre .3) tt (pre .2) (tables .1 .0 ∙ pre .4) (c .before .before .before .before .before .before .before .before .before .before .before .before .before .before .before .before .before .before .before .before .show-words .ensures) (λ i h. omega arith))
 

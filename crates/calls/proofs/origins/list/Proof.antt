@@ -47,7 +47,7 @@ returns : tie.Need-returns
 returns c =
     let told = c .before .before .before .before .before .before .before .before in
     record {
-      settled = told .before .before .before .before .before .before .before .fill .ensures;
+      settled = told .before .before .before .before .before .before .before .fill .ensures .0;
       told = told .tell .ensures;
       count = c .count .ensures;
       clear = c .before .before .before .before .clear .ensures;

@@ -2,6 +2,7 @@
 use mathlib.Core.Logic.{⊎-elim}
 use Rattle.fewest.specs.Work.{goalOf, Hinted}
 use Rattle.fewest.proofs.Hints.{hinted-none}
+use Rattle.fewest.proofs.Keeping.{levelled-numbers, levelled-scratch, levelled-then}
 use borrow.Author.Needs.{needs}
 use Rattle.fewest.proofs.levels.begin.Statement.{statement}
 use Rattle.fewest.proofs.levels.begin.Tie as tie
@@ -25,7 +26,7 @@ same-length-2 : tie.Need-same-length-2
 same-length-2 c = search needs
 
 returns : tie.Need-returns
-returns c = hinted-none
+returns c = levelled-scratch (c .before .before .«open» .ensures)
 
 ends-in-star-requires : tie.Need-ends-in-star-requires
 ends-in-star-requires c κs = search needs
@@ -49,7 +50,7 @@ same-length-4 : tie.Need-same-length-4
 same-length-4 c = passed (c .before .before .before .before) .long
 
 returns-2 : tie.Need-returns-2
-returns-2 c = passed (c .before .before .before .before)
+returns-2 c = levelled-then (levelled-numbers (passed (c .before .before .before .before))) (levelled-scratch (c .before .before .open2 .ensures))
 
 pub begin-spec : {M : Type 1} → statement M
 begin-spec =

@@ -1,12 +1,12 @@
 -- `fewest::levels::begin_all` meets its contract: what may pass empty, then each turn takes the lowest bit away.
 -- The measure is the set that is left.
 use Prim.Native.Nat.{_-_}
-use mathlib.Core.Path.{_≡_, refl, _∙_}
-use lib.ListN.{length}
+use mathlib.Core.Path.{_∙_}
 use lib.Count.{trailing-le}
 use lib.Bits.{and-le-r}
-use Rattle.fewest.specs.Work.{goalOf, Hinted}
-use Rattle.fewest.proofs.Hints.{hinted-none, hinted-then, hinted-full}
+use Rattle.fewest.specs.Work.{goalOf}
+use Rattle.fewest.specs.Kept.{Levelled}
+use Rattle.fewest.proofs.Keeping.{levelled-none, levelled-numbers, levelled-then, levelled-full}
 use borrow.Author.Needs.{needs}
 use native.Mathlib.Omega.{arith}
 use Rattle.fewest.proofs.levels.begin_all.Statement.{statement}
@@ -14,7 +14,7 @@ use Rattle.fewest.proofs.levels.begin_all.Tie as tie
 
 abbrev Inv-loop : tie.InvT-loop
 Inv-loop site triples rule starts count up role first goal scratch₀ numbers₀ b len₀ rest₀ scratch numbers len rest =
-    Hinted site triples rule up role first (goalOf goal) numbers₀ numbers × (length scratch ≡ length scratch₀)
+    Levelled site triples rule up role first (goalOf goal) numbers₀ numbers scratch₀ scratch
 
 abbrev μ-loop : tie.MeasureT-loop
 μ-loop site triples rule starts count up role first goal scratch₀ numbers₀ b len₀ rest₀ scratch numbers len rest = rest
@@ -26,7 +26,7 @@ last-in-requires : tie.Need-last-in-requires Inv-loop μ-loop
 last-in-requires c κs = search needs
 
 loop-holds : tie.Need-loop-holds Inv-loop μ-loop
-loop-holds c = (hinted-none, refl)
+loop-holds c = levelled-none
 
 cast-bit : tie.Need-cast-bit Inv-loop μ-loop
 cast-bit c = omega (arith, trailing-le 64 (c .before .loop .rest))
@@ -42,7 +42,7 @@ sweep-if-requires c κs =
     let head = c .before .before .before .before .before in
     let after-finish = head .before .before .before .before .before .before .before in
     let pre = after-finish .before .before .before .before .before .before .before .pre in
-    (pre .0, hinted-full (hinted-then (after-finish .finish .ensures) (head .loop .inv .0)) (pre .1))
+    (pre .0, levelled-full (levelled-then (after-finish .finish .ensures) (head .loop .inv)) (pre .1))
 
 rise-all-requires : tie.Need-rise-all-requires Inv-loop μ-loop
 rise-all-requires c κs =
@@ -51,8 +51,8 @@ rise-all-requires c κs =
     let head = after-step-of .before .before .before in
     let after-finish = head .before .before .before .before .before .before .before in
     let pre = after-finish .before .before .before .before .before .before .before .pre in
-    let swept = hinted-then (head .loop .inv .0) (after-sweep-if .sweep-if .ensures) in
-    (pre .0, hinted-full (hinted-then (after-finish .finish .ensures) swept) (pre .1), after-step-of .step-of .ensures)
+    let swept = levelled-then (head .loop .inv) (levelled-numbers (after-sweep-if .sweep-if .ensures)) in
+    (pre .0, levelled-full (levelled-then (after-finish .finish .ensures) swept) (pre .1), after-step-of .step-of .ensures)
 
 loop-less : tie.Need-loop-less Inv-loop μ-loop
 loop-less c =
@@ -65,17 +65,17 @@ loop-again c =
     let after-rise-all = c .before .before .before .before in
     let after-sweep-if = after-rise-all .before .before .before .before .before in
     let head = after-sweep-if .before .before .before .before .before .before in
-    let swept = hinted-then (head .loop .inv .0) (after-sweep-if .sweep-if .ensures) in
-    (hinted-then swept (after-rise-all .rise-all .ensures), after-rise-all .rise-all .kept .1 .1 .1 .1 .1 .1 .1 .1 .1 .0 ∙ head .loop .inv .1)
+    let swept = levelled-then (head .loop .inv) (levelled-numbers (after-sweep-if .sweep-if .ensures)) in
+    levelled-then swept (after-rise-all .rise-all .ensures)
 
 same-length : tie.Need-same-length Inv-loop μ-loop
-same-length c = c .before .loop .inv .1 ∙ c .before .before .before .before .before .before .before .before .finish .kept .1 .1 .1 .1 .1 .1 .1 .1 .1 .0
+same-length c = c .before .loop .inv .scratch .long ∙ c .before .before .before .before .before .before .before .before .finish .ensures .scratch .long
 
 same-length-2 : tie.Need-same-length-2 Inv-loop μ-loop
-same-length-2 c = c .before .loop .inv .0 .long ∙ c .before .before .before .before .before .before .before .before .finish .ensures .long
+same-length-2 c = c .before .loop .inv .numbers .long ∙ c .before .before .before .before .before .before .before .before .finish .ensures .numbers .long
 
 returns : tie.Need-returns Inv-loop μ-loop
-returns c = hinted-then (c .before .before .before .before .before .before .before .before .finish .ensures) (c .before .loop .inv .0)
+returns c = levelled-then (c .before .before .before .before .before .before .before .before .finish .ensures) (c .before .loop .inv)
 
 pub begin-all-spec : {M : Type 1} → statement M
 begin-all-spec =

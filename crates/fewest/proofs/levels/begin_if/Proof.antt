@@ -1,12 +1,12 @@
 -- `fewest::levels::begin_if` meets its contract: one term, if it is one.
 use Rattle.meaning.specs.Limits.{terms}
-use Rattle.fewest.proofs.Hints.{hinted-none}
+use Rattle.fewest.proofs.Keeping.{levelled-none}
 use borrow.Author.Needs.{needs}
 use Rattle.fewest.proofs.levels.begin_if.Statement.{statement}
 use Rattle.fewest.proofs.levels.begin_if.Tie as tie
 
 returns : tie.Need-returns
-returns c = hinted-none
+returns c = levelled-none
 
 begin-requires : tie.Need-begin-requires
 unfolding terms

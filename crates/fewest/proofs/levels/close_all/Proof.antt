@@ -1,28 +1,28 @@
 -- `fewest::levels::close_all` meets its contract: its places stand behind the threads.
 -- The measure is what is left of the terms.
 use Prim.Native.Nat.{_-_}
-use mathlib.Core.Path.{_≡_, refl, _∙_}
-use lib.ListN.{length}
-use Rattle.meaning.specs.Limits.{terms}
-use borrow.Author.Needs.{needs}
+use Rattle.meaning.specs.Limits.{terms, triples}
+use Rattle.fewest.specs.Kept.{Kept}
+use Rattle.fewest.proofs.Keeping.{kept-none, kept-then}
 use native.Mathlib.Omega.{arith}
 use Rattle.fewest.proofs.levels.close_all.Statement.{statement}
 use Rattle.fewest.proofs.levels.close_all.Tie as tie
 
 abbrev Inv-loop : tie.InvT-loop
-Inv-loop scratch₀ set t₀ scratch t = length scratch ≡ length scratch₀
+Inv-loop scratch₀ set t₀ scratch t = Kept scratch₀ scratch
 
 abbrev μ-loop : tie.MeasureT-loop
 μ-loop scratch₀ set t₀ scratch t = terms - t
 
 loop-holds : tie.Need-loop-holds Inv-loop μ-loop
-loop-holds c = refl
+loop-holds c = kept-none
 
 add-put-set : tie.Need-add-put-set Inv-loop μ-loop
 add-put-set c = omega arith
 
 put-set-requires : tie.Need-put-set-requires Inv-loop μ-loop
-put-set-requires c κs = search needs
+unfolding terms triples
+put-set-requires c κs = omega arith
 
 add-t : tie.Need-add-t Inv-loop μ-loop
 add-t c = omega arith
@@ -32,15 +32,13 @@ unfolding terms
 loop-less c = omega arith
 
 loop-again : tie.Need-loop-again Inv-loop μ-loop
-loop-again c =
-    let after-put-set = c .before .before in
-    after-put-set .put-set .kept .0 ∙ after-put-set .before .before .before .loop .inv
+loop-again c = kept-then (c .before .before .before .before .before .loop .inv) (c .before .before .put-set .ensures)
 
 same-length : tie.Need-same-length Inv-loop μ-loop
-same-length c = c .before .loop .inv
+same-length c = c .before .loop .inv .long
 
 returns : tie.Need-returns Inv-loop μ-loop
-returns c = tt
+returns c = c .before .loop .inv
 
 pub close-all-spec : {M : Type 1} → statement M
 close-all-spec =

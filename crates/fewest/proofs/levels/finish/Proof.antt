@@ -1,5 +1,5 @@
 -- `fewest::levels::finish` meets its contract: where no star ends the body, nothing of the table.
-use Rattle.fewest.proofs.Hints.{hinted-none}
+use Rattle.fewest.proofs.Keeping.{levelled-scratch}
 use borrow.Author.Needs.{needs}
 use Rattle.fewest.proofs.levels.finish.Statement.{statement}
 use Rattle.fewest.proofs.levels.finish.Tie as tie
@@ -29,7 +29,7 @@ same-length-3 : tie.Need-same-length-3
 same-length-3 c = search needs
 
 returns-2 : tie.Need-returns-2
-returns-2 c = hinted-none
+returns-2 c = levelled-scratch (c .before .before .close-all .ensures)
 
 pub finish-spec : {M : Type 1} → statement M
 finish-spec =

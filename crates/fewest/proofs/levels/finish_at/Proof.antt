@@ -1,6 +1,6 @@
 -- `fewest::levels::finish_at` meets its contract: what may pass empty, and nothing of the table after it.
-use Rattle.meaning.specs.Limits.{terms}
-use Rattle.fewest.proofs.Hints.{hinted-none}
+use Rattle.meaning.specs.Limits.{terms, triples}
+use Rattle.fewest.proofs.Keeping.{levelled-none, levelled-numbers, levelled-scratch, levelled-then}
 use borrow.Author.Needs.{needs}
 use native.Mathlib.Omega.{arith}
 use Rattle.fewest.proofs.levels.finish_at.Statement.{statement}
@@ -13,7 +13,7 @@ same-length : tie.Need-same-length
 same-length c = search needs
 
 returns : tie.Need-returns
-returns c = hinted-none
+returns c = levelled-none
 
 fill-within-requires : tie.Need-fill-within-requires
 fill-within-requires c κs = search needs
@@ -26,7 +26,8 @@ last-in-requires : tie.Need-last-in-requires
 last-in-requires c κs = search needs
 
 put-set-requires : tie.Need-put-set-requires
-put-set-requires c κs = search needs
+unfolding terms triples
+put-set-requires c κs = omega arith
 
 same-length-2 : tie.Need-same-length-2
 same-length-2 c = search needs
@@ -35,7 +36,7 @@ same-length-3 : tie.Need-same-length-3
 same-length-3 c = search needs
 
 returns-2 : tie.Need-returns-2
-returns-2 c = search needs
+returns-2 c = levelled-then (levelled-numbers (c .before .before .before .before .before .before .before .before .fill-within .ensures)) (levelled-scratch (c .before .before .put-set .ensures))
 
 pub finish-at-spec : {M : Type 1} → statement M
 finish-at-spec =

@@ -1,10 +1,9 @@
 -- `fewest::levels::level` meets its contract: term after term of the list.
 -- The measure is what is left of it.
 use Prim.Native.Nat.{_-_}
-use mathlib.Core.Path.{_≡_, refl, _∙_}
-use lib.ListN.{length}
-use Rattle.fewest.specs.Work.{goalOf, Hinted}
-use Rattle.fewest.proofs.Hints.{hinted-none, hinted-then, hinted-full}
+use Rattle.fewest.specs.Work.{goalOf}
+use Rattle.fewest.specs.Kept.{Levelled}
+use Rattle.fewest.proofs.Keeping.{levelled-none, levelled-then, levelled-full}
 use borrow.Author.Needs.{needs}
 use native.Mathlib.Omega.{arith}
 use Rattle.fewest.proofs.levels.level.Statement.{statement}
@@ -12,13 +11,13 @@ use Rattle.fewest.proofs.levels.level.Tie as tie
 
 abbrev Inv-loop : tie.InvT-loop
 Inv-loop site triples rule starts count up role first goal scratch₀ numbers₀ side len next₀ i₀ scratch numbers next i =
-    Hinted site triples rule up role first (goalOf goal) numbers₀ numbers × (length scratch ≡ length scratch₀)
+    Levelled site triples rule up role first (goalOf goal) numbers₀ numbers scratch₀ scratch
 
 abbrev μ-loop : tie.MeasureT-loop
 μ-loop site triples rule starts count up role first goal scratch₀ numbers₀ side len next₀ i₀ scratch numbers next i = len - i
 
 loop-holds : tie.Need-loop-holds Inv-loop μ-loop
-loop-holds c = (hinted-none, refl)
+loop-holds c = levelled-none
 
 add-byte-at : tie.Need-add-byte-at Inv-loop μ-loop
 add-byte-at c = omega arith
@@ -39,7 +38,7 @@ take-term-requires : tie.Need-take-term-requires Inv-loop μ-loop
 take-term-requires c κs =
     let head = c .before .before .before .before .before in
     let pre = head .before .before .before .before .before .pre in
-    (pre .0, hinted-full (head .loop .inv .0) (pre .1))
+    (pre .0, levelled-full (head .loop .inv) (pre .1))
 
 add-i : tie.Need-add-i Inv-loop μ-loop
 add-i c = omega arith
@@ -51,16 +50,16 @@ loop-again : tie.Need-loop-again Inv-loop μ-loop
 loop-again c =
     let after-take-term = c .before .before .before .before in
     let head = after-take-term .before .before .before .before .before .before in
-    (hinted-then (head .loop .inv .0) (after-take-term .take-term .ensures), after-take-term .take-term .kept .1 .1 .1 .1 .1 .1 .1 .1 .1 .0 ∙ head .loop .inv .1)
+    levelled-then (head .loop .inv) (after-take-term .take-term .ensures)
 
 same-length : tie.Need-same-length Inv-loop μ-loop
-same-length c = c .before .loop .inv .1
+same-length c = c .before .loop .inv .scratch .long
 
 same-length-2 : tie.Need-same-length-2 Inv-loop μ-loop
-same-length-2 c = c .before .loop .inv .0 .long
+same-length-2 c = c .before .loop .inv .numbers .long
 
 returns : tie.Need-returns Inv-loop μ-loop
-returns c = c .before .loop .inv .0
+returns c = c .before .loop .inv
 
 pub level-spec : {M : Type 1} → statement M
 level-spec =

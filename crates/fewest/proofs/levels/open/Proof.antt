@@ -1,5 +1,6 @@
 -- `fewest::levels::open` meets its contract: its places stand behind the threads.
-use Rattle.meaning.specs.Limits.{terms}
+use Rattle.meaning.specs.Limits.{terms, triples}
+use Rattle.fewest.proofs.Keeping.{kept-none, kept-then}
 use borrow.Author.Needs.{needs}
 use native.Mathlib.Omega.{arith}
 use Rattle.fewest.proofs.levels.open.Statement.{statement}
@@ -19,7 +20,7 @@ same-length : tie.Need-same-length
 same-length c = search needs
 
 returns : tie.Need-returns
-returns c = search needs
+returns c = kept-none
 
 mul-set-at : tie.Need-mul-set-at
 mul-set-at c = search needs
@@ -39,7 +40,8 @@ unfolding terms
 add-put-set c = omega (arith, c .before .before .before .before .before .before .before .before .pre)
 
 put-set-requires : tie.Need-put-set-requires
-put-set-requires c κs = search needs
+unfolding terms triples
+put-set-requires c κs = omega arith
 
 mul-put-set : tie.Need-mul-put-set
 mul-put-set c = search needs
@@ -52,19 +54,20 @@ unfolding terms
 add-put-set-3 c = omega (arith, c .before .before .before .before .before .before .before .before .before .before .before .before .pre)
 
 put-set-requires-2 : tie.Need-put-set-requires-2
-put-set-requires-2 c κs = search needs
+unfolding terms triples
+put-set-requires-2 c κs = omega arith
 
 same-length-2 : tie.Need-same-length-2
 same-length-2 c = search needs
 
 returns-2 : tie.Need-returns-2
-returns-2 c = search needs
+returns-2 c = kept-then (c .before .before .before .before .before .before .before .put-set .ensures) (c .before .before .before .put-set2 .ensures)
 
 same-length-3 : tie.Need-same-length-3
 same-length-3 c = search needs
 
 returns-3 : tie.Need-returns-3
-returns-3 c = search needs
+returns-3 c = kept-then (c .before .before .before .before .before .before .before .before .put-set .ensures) (c .before .before .before .before .put-set2 .ensures)
 
 add-put-byte : tie.Need-add-put-byte
 add-put-byte c = search needs
@@ -79,7 +82,8 @@ add-put-byte-3 : tie.Need-add-put-byte-3
 add-put-byte-3 c = search needs
 
 put-byte-requires : tie.Need-put-byte-requires
-put-byte-requires c κs = search needs
+unfolding terms triples
+put-byte-requires c κs = omega arith
 
 add-result : tie.Need-add-result
 add-result c = search needs
@@ -88,7 +92,7 @@ same-length-4 : tie.Need-same-length-4
 same-length-4 c = search needs
 
 returns-4 : tie.Need-returns-4
-returns-4 c = search needs
+returns-4 c = kept-then (kept-then (c .before .before .before .before .before .before .before .before .before .before .before .before .put-set .ensures) (c .before .before .before .before .before .before .before .before .put-set2 .ensures)) (c .before .before .put-byte .ensures)
 
 pub open-spec : {M : Type 1} → statement M
 open-spec =

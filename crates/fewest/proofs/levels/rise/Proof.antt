@@ -1,5 +1,6 @@
 -- `fewest::levels::rise` meets its contract: the climb, and nothing of the table after it.
 use Rattle.fewest.proofs.Hints.{hinted-full}
+use Rattle.fewest.proofs.Keeping.{levelled-numbers, levelled-scratch, levelled-then}
 use borrow.Author.Needs.{needs}
 use Rattle.fewest.proofs.levels.rise.Statement.{statement}
 use Rattle.fewest.proofs.levels.rise.Tie as tie
@@ -23,7 +24,9 @@ same-length-2 : tie.Need-same-length-2
 same-length-2 c = search needs
 
 returns : tie.Need-returns
-returns c = search needs
+returns c =
+    let opened = c .before .before in
+    levelled-then (levelled-numbers (opened .before .before .before .before .before .before .before .climb .ensures)) (levelled-scratch (opened .«open» .ensures))
 
 possible-requires : tie.Need-possible-requires
 possible-requires c κs =
@@ -41,7 +44,9 @@ same-length-4 : tie.Need-same-length-4
 same-length-4 c = search needs
 
 returns-2 : tie.Need-returns-2
-returns-2 c = search needs
+returns-2 c =
+    let opened = c .before .before in
+    levelled-then (levelled-numbers (opened .before .before .before .before .before .before .before .before .before .before .climb .ensures)) (levelled-scratch (opened .open2 .ensures))
 
 pub rise-spec : {M : Type 1} → statement M
 rise-spec =

@@ -1,42 +1,41 @@
 -- `fewest::levels::run_levels` meets its contract: level after level.
 -- The measure is what is left of the number of entries.
 use Prim.Native.Nat.{_*_, _-_}
-use mathlib.Core.Path.{_≡_, refl, _∙_}
-use lib.ListN.{length}
 use Rattle.meaning.specs.Limits.{terms, records}
-use Rattle.fewest.specs.Work.{goalOf, Hinted}
-use Rattle.fewest.proofs.Hints.{hinted-none, hinted-then, hinted-full}
+use Rattle.fewest.specs.Work.{goalOf}
+use Rattle.fewest.specs.Kept.{Levelled}
+use Rattle.fewest.proofs.Keeping.{levelled-none, levelled-then, levelled-full}
 use native.Mathlib.Omega.{arith}
 use Rattle.fewest.proofs.levels.run_levels.Statement.{statement}
 use Rattle.fewest.proofs.levels.run_levels.Tie as tie
 
 abbrev Inv-loop : tie.InvT-loop
 Inv-loop site triples rule starts count up role first goal scratch₀ numbers₀ begun len₀ side₀ scratch numbers len side =
-    Hinted site triples rule up role first (goalOf goal) numbers₀ numbers × (length scratch ≡ length scratch₀)
+    Levelled site triples rule up role first (goalOf goal) numbers₀ numbers scratch₀ scratch
 
 abbrev μ-loop : tie.MeasureT-loop
 μ-loop site triples rule starts count up role first goal scratch₀ numbers₀ begun len₀ side₀ scratch numbers len side = records * terms - side
 
 loop-holds : tie.Need-loop-holds Inv-loop μ-loop
-loop-holds c = (hinted-none, refl)
+loop-holds c = levelled-none
 
 mul-if1 : tie.Need-mul-if1 Inv-loop μ-loop
 mul-if1 c = omega arith
 
 same-length : tie.Need-same-length Inv-loop μ-loop
-same-length c = c .before .before .loop .inv .1
+same-length c = c .before .before .loop .inv .scratch .long
 
 same-length-2 : tie.Need-same-length-2 Inv-loop μ-loop
-same-length-2 c = c .before .before .loop .inv .0 .long
+same-length-2 c = c .before .before .loop .inv .numbers .long
 
 returns : tie.Need-returns Inv-loop μ-loop
-returns c = c .before .before .loop .inv .0
+returns c = c .before .before .loop .inv
 
 level-requires : tie.Need-level-requires Inv-loop μ-loop
 level-requires c κs =
     let head = c .before .before .before .before in
     let pre = head .before .before .before .before .before .pre in
-    (pre .0, hinted-full (head .loop .inv .0) (pre .1))
+    (pre .0, levelled-full (head .loop .inv) (pre .1))
 
 add-side : tie.Need-add-side Inv-loop μ-loop
 add-side c = omega arith
@@ -49,16 +48,16 @@ loop-again : tie.Need-loop-again Inv-loop μ-loop
 loop-again c =
     let after-level = c .before .before .before .before in
     let head = after-level .before .before .before .before .before in
-    (hinted-then (head .loop .inv .0) (after-level .level .ensures), after-level .level .kept .1 .1 .1 .1 .1 .1 .1 .1 .1 .0 ∙ head .loop .inv .1)
+    levelled-then (head .loop .inv) (after-level .level .ensures)
 
 same-length-3 : tie.Need-same-length-3 Inv-loop μ-loop
-same-length-3 c = c .before .loop .inv .1
+same-length-3 c = c .before .loop .inv .scratch .long
 
 same-length-4 : tie.Need-same-length-4 Inv-loop μ-loop
-same-length-4 c = c .before .loop .inv .0 .long
+same-length-4 c = c .before .loop .inv .numbers .long
 
 returns-2 : tie.Need-returns-2 Inv-loop μ-loop
-returns-2 c = c .before .loop .inv .0
+returns-2 c = c .before .loop .inv
 
 pub run-levels-spec : {M : Type 1} → statement M
 run-levels-spec =

@@ -1,5 +1,5 @@
 -- `fewest::levels::search` meets its contract: where the body may finish, and then level after level.
-use Rattle.fewest.proofs.Hints.{hinted-then, hinted-full}
+use Rattle.fewest.proofs.Keeping.{levelled-scratch, levelled-then, levelled-full}
 use borrow.Author.Needs.{needs}
 use Rattle.fewest.proofs.levels.search.Statement.{statement}
 use Rattle.fewest.proofs.levels.search.Tie as tie
@@ -14,7 +14,7 @@ run-levels-requires : tie.Need-run-levels-requires
 run-levels-requires c κs =
     let after-begin-body = c .before .before .before .before .before .before in
     let pre = after-begin-body .before .before .before .before .before .before .before .before .before .before .before .pre in
-    (pre .0, hinted-full (after-begin-body .begin-body .ensures) (pre .1))
+    (pre .0, levelled-full (after-begin-body .begin-body .ensures) (pre .1))
 
 same-length : tie.Need-same-length
 same-length c = search needs
@@ -25,8 +25,9 @@ same-length-2 c = search needs
 returns : tie.Need-returns
 returns c =
     let after-run-levels = c .before .before .before .before in
-    hinted-then (after-run-levels .before .before .before .before .before .before .before .begin-body .ensures)
-    (after-run-levels .run-levels .ensures)
+    let after-begin-body = after-run-levels .before .before .before .before .before .before .before in
+    let prepared = levelled-scratch (after-begin-body .before .before .before .before .before .prepare .ensures) in
+    levelled-then prepared (levelled-then (after-begin-body .begin-body .ensures) (after-run-levels .run-levels .ensures))
 
 pub search-spec : {M : Type 1} → statement M
 search-spec =

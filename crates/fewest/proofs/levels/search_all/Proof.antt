@@ -1,33 +1,32 @@
 -- `fewest::levels::search_all` meets its contract: body after body.
 -- The measure is what is left of the records.
 use Prim.Native.Nat.{_-_}
-use mathlib.Core.Path.{_≡_, refl, _∙_}
-use lib.ListN.{length}
 use Rattle.meaning.specs.Limits.{records}
-use Rattle.fewest.specs.Work.{goalOf, Hinted}
-use Rattle.fewest.proofs.Hints.{hinted-none, hinted-then, hinted-full}
+use Rattle.fewest.specs.Work.{goalOf}
+use Rattle.fewest.specs.Kept.{Levelled}
+use Rattle.fewest.proofs.Keeping.{levelled-none, levelled-then, levelled-full}
 use native.Mathlib.Omega.{arith}
 use Rattle.fewest.proofs.levels.search_all.Statement.{statement}
 use Rattle.fewest.proofs.levels.search_all.Tie as tie
 
 abbrev Inv-loop : tie.InvT-loop
 Inv-loop site triples rule starts count up role first goal scratch₀ numbers₀ b₀ scratch numbers b =
-    Hinted site triples rule up role first (goalOf goal) numbers₀ numbers × (length scratch ≡ length scratch₀)
+    Levelled site triples rule up role first (goalOf goal) numbers₀ numbers scratch₀ scratch
 
 abbrev μ-loop : tie.MeasureT-loop
 μ-loop site triples rule starts count up role first goal scratch₀ numbers₀ b₀ scratch numbers b = records - b
 
 loop-holds : tie.Need-loop-holds Inv-loop μ-loop
-loop-holds c = (hinted-none, refl)
+loop-holds c = levelled-none
 
 same-length : tie.Need-same-length Inv-loop μ-loop
-same-length c = c .before .before .loop .inv .1
+same-length c = c .before .before .loop .inv .scratch .long
 
 same-length-2 : tie.Need-same-length-2 Inv-loop μ-loop
-same-length-2 c = c .before .before .loop .inv .0 .long
+same-length-2 c = c .before .before .loop .inv .numbers .long
 
 returns : tie.Need-returns Inv-loop μ-loop
-returns c = c .before .before .loop .inv .0
+returns c = c .before .before .loop .inv
 
 search-if-requires : tie.Need-search-if-requires Inv-loop μ-loop
 unfolding records
@@ -35,7 +34,7 @@ search-if-requires c κs =
     let turn = c .before .before .before in
     let head = turn .before in
     let pre = head .before .before .before .before .before .pre in
-    (pre .0, hinted-full (head .loop .inv .0) (pre .1), turn .loop-test .taken)
+    (pre .0, levelled-full (head .loop .inv) (pre .1), turn .loop-test .taken)
 
 add-b : tie.Need-add-b Inv-loop μ-loop
 add-b c = omega arith
@@ -48,16 +47,16 @@ loop-again : tie.Need-loop-again Inv-loop μ-loop
 loop-again c =
     let after-search-if = c .before .before .before .before in
     let head = after-search-if .before .before .before .before .before in
-    (hinted-then (head .loop .inv .0) (after-search-if .search-if .ensures), after-search-if .search-if .kept .1 .1 .1 .1 .1 .1 .1 .1 .1 .0 ∙ head .loop .inv .1)
+    levelled-then (head .loop .inv) (after-search-if .search-if .ensures)
 
 same-length-3 : tie.Need-same-length-3 Inv-loop μ-loop
-same-length-3 c = c .before .loop .inv .1
+same-length-3 c = c .before .loop .inv .scratch .long
 
 same-length-4 : tie.Need-same-length-4 Inv-loop μ-loop
-same-length-4 c = c .before .loop .inv .0 .long
+same-length-4 c = c .before .loop .inv .numbers .long
 
 returns-2 : tie.Need-returns-2 Inv-loop μ-loop
-returns-2 c = c .before .loop .inv .0
+returns-2 c = c .before .loop .inv
 
 pub search-all-spec : {M : Type 1} → statement M
 search-all-spec =

@@ -1,5 +1,5 @@
 -- `fewest::levels::search_if` meets its contract: the body was searched, or nothing was done.
-use Rattle.fewest.proofs.Hints.{hinted-none}
+use Rattle.fewest.proofs.Keeping.{levelled-none}
 use borrow.Author.Needs.{needs}
 use Rattle.fewest.proofs.levels.search_if.Statement.{statement}
 use Rattle.fewest.proofs.levels.search_if.Tie as tie
@@ -23,7 +23,7 @@ same-length-3 : tie.Need-same-length-3
 same-length-3 c = search needs
 
 returns-2 : tie.Need-returns-2
-returns-2 c = hinted-none
+returns-2 c = levelled-none
 
 pub search-if-spec : {M : Type 1} → statement M
 search-if-spec =

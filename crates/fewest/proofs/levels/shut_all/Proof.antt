@@ -1,29 +1,29 @@
 -- `fewest::levels::shut_all` meets its contract: its places stand behind the threads.
 -- The measure is what is left of the terms.
 use Prim.Native.Nat.{_-_}
-use mathlib.Core.Path.{_≡_, refl, _∙_}
-use lib.ListN.{length}
-use Rattle.meaning.specs.Limits.{terms}
-use borrow.Author.Needs.{needs}
+use Rattle.meaning.specs.Limits.{terms, triples}
+use Rattle.fewest.specs.Kept.{Kept}
+use Rattle.fewest.proofs.Keeping.{kept-none, kept-then}
 use native.Mathlib.Omega.{arith}
 use Rattle.fewest.proofs.levels.shut_all.Statement.{statement}
 use Rattle.fewest.proofs.levels.shut_all.Tie as tie
 
 abbrev Inv-loop : tie.InvT-loop
 Inv-loop scratch₀ t₀ scratch t =
-    length scratch ≡ length scratch₀
+    Kept scratch₀ scratch
 
 abbrev μ-loop : tie.MeasureT-loop
 μ-loop scratch₀ t₀ scratch t = terms - t
 
 loop-holds : tie.Need-loop-holds Inv-loop μ-loop
-loop-holds c = refl
+loop-holds c = kept-none
 
 add-put-set : tie.Need-add-put-set Inv-loop μ-loop
 add-put-set c = omega arith
 
 put-set-requires : tie.Need-put-set-requires Inv-loop μ-loop
-put-set-requires c κs = search needs
+unfolding terms triples
+put-set-requires c κs = omega arith
 
 add-put-set-2 : tie.Need-add-put-set-2 Inv-loop μ-loop
 add-put-set-2 c = omega arith
@@ -32,13 +32,15 @@ add-put-set-3 : tie.Need-add-put-set-3 Inv-loop μ-loop
 add-put-set-3 c = omega arith
 
 put-set-requires-2 : tie.Need-put-set-requires-2 Inv-loop μ-loop
-put-set-requires-2 c κs = search needs
+unfolding terms triples
+put-set-requires-2 c κs = omega arith
 
 add-put-set-4 : tie.Need-add-put-set-4 Inv-loop μ-loop
 add-put-set-4 c = omega arith
 
 put-set-requires-3 : tie.Need-put-set-requires-3 Inv-loop μ-loop
-put-set-requires-3 c κs = search needs
+unfolding terms triples
+put-set-requires-3 c κs = omega arith
 
 add-t : tie.Need-add-t Inv-loop μ-loop
 add-t c = omega arith
@@ -52,13 +54,14 @@ loop-again c =
     let after-put-set3 = c .before .before in
     let after-put-set2 = after-put-set3 .before .before .before .before in
     let after-put-set = after-put-set2 .before .before .before .before in
-    after-put-set3 .put-set3 .kept .0 ∙ after-put-set2 .put-set2 .kept .0 ∙ after-put-set .put-set .kept .0 ∙ after-put-set .before .before .before .loop .inv
+    kept-then (kept-then (after-put-set .before .before .before .loop .inv) (after-put-set .put-set .ensures))
+    (kept-then (after-put-set2 .put-set2 .ensures) (after-put-set3 .put-set3 .ensures))
 
 same-length : tie.Need-same-length Inv-loop μ-loop
-same-length c = c .before .loop .inv
+same-length c = c .before .loop .inv .long
 
 returns : tie.Need-returns Inv-loop μ-loop
-returns c = tt
+returns c = c .before .loop .inv
 
 pub shut-all-spec : {M : Type 1} → statement M
 shut-all-spec =

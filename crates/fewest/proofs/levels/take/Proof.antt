@@ -4,7 +4,8 @@ use Rattle.records.specs.Sites.{siteOf}
 use Rattle.records.specs.Rules.{axisNumbered}
 use Rattle.fewest.specs.Table.{Full}
 use Rattle.fewest.proofs.Axes.{Terms, Taken, moved-terms, moved-taken}
-use Rattle.fewest.proofs.Hints.{hinted-then, hinted-step, stepping-sits}
+use Rattle.fewest.proofs.Hints.{hinted-step, stepping-sits}
+use Rattle.fewest.proofs.Keeping.{levelled-numbers, levelled-then}
 use borrow.Author.Needs.{needs}
 use native.Mathlib.Omega.{arith}
 use Rattle.fewest.proofs.levels.take.Statement.{statement}
@@ -56,8 +57,8 @@ returns c =
     let after-reach = after-rise .before .before .before .before .before .before in
     let after-move-at = after-reach .before .before in
     let (ready, full, here, within, stepping, other, so) = after-move-at .before .before .before .before .before .pre in
-    hinted-then
-    (hinted-step ready here _ stepping (after-reach .reach .kept .1 .1 .1 .1 .1 .0) (after-reach .reach .ensures _ _ _ (one-move after-move-at .moves)))
+    levelled-then
+    (levelled-numbers (hinted-step ready here _ stepping (after-reach .reach .kept .1 .1 .1 .1 .1 .0) (after-reach .reach .ensures _ _ _ (one-move after-move-at .moves))))
     (after-rise .rise .ensures)
 
 same-length-3 : tie.Need-same-length-3
@@ -68,8 +69,8 @@ returns-2 c =
     let after-reach = c .before .before .before in
     let after-move-at = after-reach .before .before in
     let (ready, full, here, within, stepping, other, so) = after-move-at .before .before .before .before .before .pre in
-    hinted-step ready here _ stepping (after-reach .reach .kept .1 .1 .1 .1 .1 .0)
-    (after-reach .reach .ensures _ _ _ (one-move after-move-at .moves))
+    levelled-numbers
+    (hinted-step ready here _ stepping (after-reach .reach .kept .1 .1 .1 .1 .1 .0) (after-reach .reach .ensures _ _ _ (one-move after-move-at .moves)))
 
 pub take-spec : {M : Type 1} → statement M
 take-spec =

@@ -1,10 +1,9 @@
 -- `fewest::levels::take_all` meets its contract: triple after triple of a thread, which goes up.
 -- The measure is what is left of the triples.
 use Prim.Native.Nat.{_-_}
-use mathlib.Core.Path.{_≡_, refl, _∙_}
-use lib.ListN.{length}
-use Rattle.fewest.specs.Work.{goalOf, Hinted}
-use Rattle.fewest.proofs.Hints.{hinted-none, hinted-then, hinted-full}
+use Rattle.fewest.specs.Work.{goalOf}
+use Rattle.fewest.specs.Kept.{Levelled}
+use Rattle.fewest.proofs.Keeping.{levelled-none, levelled-then, levelled-full}
 use borrow.Author.Needs.{needs}
 use native.Mathlib.Omega.{arith}
 use Rattle.fewest.proofs.levels.take_all.Statement.{statement}
@@ -12,7 +11,7 @@ use Rattle.fewest.proofs.levels.take_all.Tie as tie
 
 abbrev Inv-loop : tie.InvT-loop
 Inv-loop site triples rule starts count up role first goal scratch₀ numbers₀ step r u side was axis parts len₀ k₀ scratch numbers len k =
-    Hinted site triples rule up role first (goalOf goal) numbers₀ numbers × (length scratch ≡ length scratch₀)
+    Levelled site triples rule up role first (goalOf goal) numbers₀ numbers scratch₀ scratch
 
 abbrev μ-loop : tie.MeasureT-loop
 μ-loop site triples rule starts count up role first goal scratch₀ numbers₀ step r u side was axis parts len₀ k₀ scratch numbers len k = triples - k
@@ -24,7 +23,7 @@ first-to-requires : tie.Need-first-to-requires Inv-loop μ-loop
 first-to-requires c κs = search needs
 
 loop-holds : tie.Need-loop-holds Inv-loop μ-loop
-loop-holds c = (hinted-none, refl)
+loop-holds c = levelled-none
 
 take-requires : tie.Need-take-requires Inv-loop μ-loop
 take-requires c κs =
@@ -32,7 +31,7 @@ take-requires c κs =
     let head = turn .before in
     let after-parts-of = head .before .before .before in
     let pre = after-parts-of .before .before .before .before .before .pre in
-    (pre .0, hinted-full (head .loop .inv .0) (pre .1), pre .2, turn .loop-test .taken, pre .4, pre .5, after-parts-of .parts-of .ensures)
+    (pre .0, levelled-full (head .loop .inv) (pre .1), pre .2, turn .loop-test .taken, pre .4, pre .5, after-parts-of .parts-of .ensures)
 
 inverse-requires : tie.Need-inverse-requires Inv-loop μ-loop
 inverse-requires c κs = search needs
@@ -51,16 +50,16 @@ loop-again : tie.Need-loop-again Inv-loop μ-loop
 loop-again c =
     let after-take = c .before .before .before .before .before .before .before in
     let head = after-take .before .before .before .before in
-    (hinted-then (head .loop .inv .0) (after-take .take .ensures), after-take .take .kept .1 .1 .1 .1 .1 .1 .1 .1 .1 .0 ∙ head .loop .inv .1)
+    levelled-then (head .loop .inv) (after-take .take .ensures)
 
 same-length : tie.Need-same-length Inv-loop μ-loop
-same-length c = c .before .loop .inv .1
+same-length c = c .before .loop .inv .scratch .long
 
 same-length-2 : tie.Need-same-length-2 Inv-loop μ-loop
-same-length-2 c = c .before .loop .inv .0 .long
+same-length-2 c = c .before .loop .inv .numbers .long
 
 returns : tie.Need-returns Inv-loop μ-loop
-returns c = c .before .loop .inv .0
+returns c = c .before .loop .inv
 
 pub take-all-spec : {M : Type 1} → statement M
 take-all-spec =

@@ -1,14 +1,14 @@
 -- `fewest::levels::take_record` meets its contract: a step is taken, and nothing else.
 use mathlib.Core.Path.{sym, _∙_}
 use Rattle.fewest.specs.Work.{Stepping}
-use Rattle.fewest.proofs.Hints.{hinted-none}
+use Rattle.fewest.proofs.Keeping.{levelled-none}
 use borrow.Author.Needs.{needs}
 use native.Mathlib.Omega.{arith}
 use Rattle.fewest.proofs.levels.take_record.Statement.{statement}
 use Rattle.fewest.proofs.levels.take_record.Tie as tie
 
 returns : tie.Need-returns
-returns c = hinted-none
+returns c = levelled-none
 
 record-of-requires : tie.Need-record-of-requires
 record-of-requires c κs = let few = c .before .before .before .before .before .pre .0 .few in omega (arith, c .if1 .left)
@@ -44,13 +44,13 @@ returns-2 : tie.Need-returns-2
 returns-2 c = search needs
 
 returns-3 : tie.Need-returns-3
-returns-3 c = hinted-none
+returns-3 c = levelled-none
 
 returns-4 : tie.Need-returns-4
-returns-4 c = hinted-none
+returns-4 c = levelled-none
 
 returns-5 : tie.Need-returns-5
-returns-5 c = hinted-none
+returns-5 c = levelled-none
 
 pub take-record-spec : {M : Type 1} → statement M
 take-record-spec =

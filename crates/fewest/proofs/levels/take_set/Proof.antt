@@ -1,12 +1,11 @@
 -- `fewest::levels::take_set` meets its contract: each turn takes the lowest bit away.
 -- The measure is the set that is left.
 use Prim.Native.Nat.{_-_}
-use mathlib.Core.Path.{_≡_, refl, _∙_}
-use lib.ListN.{length}
 use lib.Count.{trailing-le}
 use lib.Bits.{and-le-r}
-use Rattle.fewest.specs.Work.{goalOf, Hinted}
-use Rattle.fewest.proofs.Hints.{hinted-none, hinted-then, hinted-full}
+use Rattle.fewest.specs.Work.{goalOf}
+use Rattle.fewest.specs.Kept.{Levelled}
+use Rattle.fewest.proofs.Keeping.{levelled-none, levelled-then, levelled-full}
 use borrow.Author.Needs.{needs}
 use native.Mathlib.Omega.{arith}
 use Rattle.fewest.proofs.levels.take_set.Statement.{statement}
@@ -14,13 +13,13 @@ use Rattle.fewest.proofs.levels.take_set.Tie as tie
 
 abbrev Inv-loop : tie.InvT-loop
 Inv-loop site triples rule starts count up role first goal scratch₀ numbers₀ set u side was len₀ rest₀ scratch numbers len rest =
-    Hinted site triples rule up role first (goalOf goal) numbers₀ numbers × (length scratch ≡ length scratch₀)
+    Levelled site triples rule up role first (goalOf goal) numbers₀ numbers scratch₀ scratch
 
 abbrev μ-loop : tie.MeasureT-loop
 μ-loop site triples rule starts count up role first goal scratch₀ numbers₀ set u side was len₀ rest₀ scratch numbers len rest = rest
 
 loop-holds : tie.Need-loop-holds Inv-loop μ-loop
-loop-holds c = (hinted-none, refl)
+loop-holds c = levelled-none
 
 cast-bit : tie.Need-cast-bit Inv-loop μ-loop
 cast-bit c = omega (arith, trailing-le 64 (c .before .loop .rest))
@@ -35,7 +34,7 @@ take-record-requires : tie.Need-take-record-requires Inv-loop μ-loop
 take-record-requires c κs =
     let head = c .before .before .before .before .before in
     let pre = head .before .before .before .before .before .pre in
-    (pre .0, hinted-full (head .loop .inv .0) (pre .1), pre .2)
+    (pre .0, levelled-full (head .loop .inv) (pre .1), pre .2)
 
 loop-less : tie.Need-loop-less Inv-loop μ-loop
 loop-less c =
@@ -47,16 +46,16 @@ loop-again : tie.Need-loop-again Inv-loop μ-loop
 loop-again c =
     let after-take-record = c .before .before .before .before in
     let head = after-take-record .before .before .before .before .before .before in
-    (hinted-then (head .loop .inv .0) (after-take-record .take-record .ensures), after-take-record .take-record .kept .1 .1 .1 .1 .1 .1 .1 .1 .1 .0 ∙ head .loop .inv .1)
+    levelled-then (head .loop .inv) (after-take-record .take-record .ensures)
 
 same-length : tie.Need-same-length Inv-loop μ-loop
-same-length c = c .before .loop .inv .1
+same-length c = c .before .loop .inv .scratch .long
 
 same-length-2 : tie.Need-same-length-2 Inv-loop μ-loop
-same-length-2 c = c .before .loop .inv .0 .long
+same-length-2 c = c .before .loop .inv .numbers .long
 
 returns : tie.Need-returns Inv-loop μ-loop
-returns c = c .before .loop .inv .0
+returns c = c .before .loop .inv
 
 pub take-set-spec : {M : Type 1} → statement M
 take-set-spec =

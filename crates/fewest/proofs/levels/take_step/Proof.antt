@@ -1,7 +1,8 @@
 -- `fewest::levels::take_step` meets its contract: an axis that takes triples goes by them, self stays.
 use mathlib.Core.Path.{_∙_}
 use Rattle.fewest.specs.Table.{Full}
-use Rattle.fewest.proofs.Hints.{hinted-then, hinted-self, stepping-sits}
+use Rattle.fewest.proofs.Hints.{hinted-self, stepping-sits}
+use Rattle.fewest.proofs.Keeping.{levelled-numbers, levelled-then}
 use borrow.Author.Needs.{needs}
 use native.Mathlib.Omega.{arith}
 use Rattle.fewest.proofs.levels.take_step.Statement.{statement}
@@ -50,8 +51,8 @@ returns-2 c =
     let after-rest-at = after-rise .before .before .before .before .before .before in
     let else-1 = after-rest-at .before .before .before .before in
     let (ready, full, here, term, stepping) = else-1 .before .before .before .before .before .before .pre in
-    hinted-then
-    (hinted-self ready here _ stepping (else-1 .if1 .left) (after-rest-at .rest-at .kept .1 .1 .1 .1 .1 .1 .0) (after-rest-at .rest-at .ensures))
+    levelled-then
+    (levelled-numbers (hinted-self ready here _ stepping (else-1 .if1 .left) (after-rest-at .rest-at .kept .1 .1 .1 .1 .1 .1 .0) (after-rest-at .rest-at .ensures)))
     (after-rise .rise .ensures)
 
 same-length-5 : tie.Need-same-length-5
@@ -65,8 +66,8 @@ returns-3 c =
     let after-rest-at = c .before .before .before in
     let else-1 = after-rest-at .before .before .before .before in
     let (ready, full, here, term, stepping) = else-1 .before .before .before .before .before .before .pre in
-    hinted-self ready here _ stepping (else-1 .if1 .left) (after-rest-at .rest-at .kept .1 .1 .1 .1 .1 .1 .0)
-    (after-rest-at .rest-at .ensures)
+    levelled-numbers
+    (hinted-self ready here _ stepping (else-1 .if1 .left) (after-rest-at .rest-at .kept .1 .1 .1 .1 .1 .1 .0) (after-rest-at .rest-at .ensures))
 
 pub take-step-spec : {M : Type 1} → statement M
 take-step-spec =

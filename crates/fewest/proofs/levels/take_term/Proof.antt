@@ -1,12 +1,13 @@
 -- `fewest::levels::take_term` meets its contract: what is open at a term, if it is one.
-use Rattle.meaning.specs.Limits.{terms}
-use Rattle.fewest.proofs.Hints.{hinted-none}
+use Rattle.meaning.specs.Limits.{terms, triples}
+use Rattle.fewest.proofs.Keeping.{levelled-none, levelled-scratch, levelled-then}
+use native.Mathlib.Omega.{arith}
 use borrow.Author.Needs.{needs}
 use Rattle.fewest.proofs.levels.take_term.Statement.{statement}
 use Rattle.fewest.proofs.levels.take_term.Tie as tie
 
 returns : tie.Need-returns
-returns c = hinted-none
+returns c = levelled-none
 
 mul-set-at : tie.Need-mul-set-at
 mul-set-at c = search needs
@@ -30,7 +31,8 @@ add-put-set-2 : tie.Need-add-put-set-2
 add-put-set-2 c = search needs
 
 put-set-requires : tie.Need-put-set-requires
-put-set-requires c κs = search needs
+unfolding terms triples
+put-set-requires c κs = omega arith
 
 add-take-set : tie.Need-add-take-set
 add-take-set c = search needs
@@ -48,7 +50,7 @@ same-length-2 : tie.Need-same-length-2
 same-length-2 c = search needs
 
 returns-2 : tie.Need-returns-2
-returns-2 c = search needs
+returns-2 c = levelled-then (levelled-scratch (c .before .before .before .before .before .before .before .before .before .put-set .ensures)) (c .before .before .before .before .take-set .ensures)
 
 pub take-term-spec : {M : Type 1} → statement M
 take-term-spec =

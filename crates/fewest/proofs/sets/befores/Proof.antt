@@ -1,18 +1,19 @@
--- `fewest::sets::befores` ends: the measure is the record.
-use mathlib.Core.Path.{_≡_}
-use lib.ListN.{length}
+-- `fewest::sets::befores` meets its contract, one record after another: the measure is the record.
+use mathlib.Core.Path.{_∙_}
+use Rattle.fewest.specs.Kept.{Kept}
+use Rattle.fewest.proofs.Keeping.{kept-none, kept-then}
 use borrow.Author.Needs.{needs}
 use Rattle.fewest.proofs.sets.befores.Statement.{statement}
 use Rattle.fewest.proofs.sets.befores.Tie as tie
 
 abbrev Inv-loop : tie.InvT-loop
-Inv-loop rule starts first b scratch₀ low r₀ scratch r = length scratch ≡ length scratch₀
+Inv-loop rule starts first b scratch₀ low r₀ scratch r = Kept scratch₀ scratch
 
 abbrev μ-loop : tie.MeasureT-loop
 μ-loop rule starts first b scratch₀ low r₀ scratch r = r
 
 returns : tie.Need-returns Inv-loop μ-loop
-returns c = search needs
+returns c = kept-none
 
 add-put-hint : tie.Need-add-put-hint Inv-loop μ-loop
 add-put-hint c = search needs
@@ -33,7 +34,7 @@ add-r : tie.Need-add-r Inv-loop μ-loop
 add-r c = search needs
 
 loop-holds : tie.Need-loop-holds Inv-loop μ-loop
-loop-holds c = search needs
+loop-holds c = kept-none
 
 sub-r : tie.Need-sub-r Inv-loop μ-loop
 sub-r c = search needs
@@ -45,13 +46,13 @@ loop-less : tie.Need-loop-less Inv-loop μ-loop
 loop-less c = search needs
 
 loop-again : tie.Need-loop-again Inv-loop μ-loop
-loop-again c = search needs
+loop-again c = kept-then (c .before .before .before .before .before .loop .inv) (c .before .before .before-if .ensures)
 
 same-length : tie.Need-same-length Inv-loop μ-loop
-same-length c = search needs
+same-length c = c .before .loop .inv .long ∙ c .before .before .before .before .before .before .before .put-hint .ensures .long
 
 returns-2 : tie.Need-returns-2 Inv-loop μ-loop
-returns-2 c = search needs
+returns-2 c = kept-then (c .before .before .before .before .before .before .before .put-hint .ensures) (c .before .loop .inv)
 
 pub befores-spec : {M : Type 1} → statement M
 befores-spec =

@@ -1,19 +1,19 @@
--- `fewest::sets::lasts` ends: the measure is what is left of the records up to the root.
+-- `fewest::sets::lasts` meets its contract, one record after another: the measure is what is left of the records up to the root.
 use Prim.Native.Nat.{_+_, _-_}
-use mathlib.Core.Path.{_≡_}
-use lib.ListN.{length}
+use Rattle.fewest.specs.Kept.{Kept}
+use Rattle.fewest.proofs.Keeping.{kept-none, kept-then}
 use borrow.Author.Needs.{needs}
 use Rattle.fewest.proofs.sets.lasts.Statement.{statement}
 use Rattle.fewest.proofs.sets.lasts.Tie as tie
 
 abbrev Inv-loop : tie.InvT-loop
-Inv-loop rule starts first b scratch₀ n₀ r₀ scratch n r = length scratch ≡ length scratch₀
+Inv-loop rule starts first b scratch₀ n₀ r₀ scratch n r = Kept scratch₀ scratch
 
 abbrev μ-loop : tie.MeasureT-loop
 μ-loop rule starts first b scratch₀ n₀ r₀ scratch n r = b + 1 - r
 
 returns : tie.Need-returns Inv-loop μ-loop
-returns c = search needs
+returns c = kept-none
 
 add-less : tie.Need-add-less Inv-loop μ-loop
 add-less c = search needs
@@ -25,7 +25,7 @@ less-requires : tie.Need-less-requires Inv-loop μ-loop
 less-requires c κs = search needs
 
 loop-holds : tie.Need-loop-holds Inv-loop μ-loop
-loop-holds c = search needs
+loop-holds c = kept-none
 
 last-if-requires : tie.Need-last-if-requires Inv-loop μ-loop
 last-if-requires c κs = search needs
@@ -37,13 +37,13 @@ loop-less : tie.Need-loop-less Inv-loop μ-loop
 loop-less c = search needs
 
 loop-again : tie.Need-loop-again Inv-loop μ-loop
-loop-again c = search needs
+loop-again c = kept-then (c .before .before .before .before .before .loop .inv) (c .before .before .last-if .ensures)
 
 same-length : tie.Need-same-length Inv-loop μ-loop
-same-length c = search needs
+same-length c = c .before .loop .inv .long
 
 returns-2 : tie.Need-returns-2 Inv-loop μ-loop
-returns-2 c = search needs
+returns-2 c = c .before .loop .inv
 
 pub lasts-spec : {M : Type 1} → statement M
 lasts-spec =

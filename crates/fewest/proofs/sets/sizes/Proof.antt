@@ -1,19 +1,19 @@
--- `fewest::sets::sizes` ends: the measure is what is left of the records.
+-- `fewest::sets::sizes` meets its contract, one record after another: the measure is what is left of the records.
 use Prim.Native.Nat.{_-_}
-use mathlib.Core.Path.{_≡_}
-use lib.ListN.{length}
+use Rattle.fewest.specs.Kept.{Kept}
+use Rattle.fewest.proofs.Keeping.{kept-none, kept-then}
 use borrow.Author.Needs.{needs}
 use Rattle.fewest.proofs.sets.sizes.Statement.{statement}
 use Rattle.fewest.proofs.sets.sizes.Tie as tie
 
 abbrev Inv-loop : tie.InvT-loop
-Inv-loop rule starts count first scratch₀ r₀ scratch r = length scratch ≡ length scratch₀
+Inv-loop rule starts count first scratch₀ r₀ scratch r = Kept scratch₀ scratch
 
 abbrev μ-loop : tie.MeasureT-loop
 μ-loop rule starts count first scratch₀ r₀ scratch r = count - r
 
 loop-holds : tie.Need-loop-holds Inv-loop μ-loop
-loop-holds c = search needs
+loop-holds c = kept-none
 
 size-at-requires : tie.Need-size-at-requires Inv-loop μ-loop
 size-at-requires c κs = search needs
@@ -25,13 +25,13 @@ loop-less : tie.Need-loop-less Inv-loop μ-loop
 loop-less c = search needs
 
 loop-again : tie.Need-loop-again Inv-loop μ-loop
-loop-again c = search needs
+loop-again c = kept-then (c .before .before .before .before .before .loop .inv) (c .before .before .size-at .ensures)
 
 same-length : tie.Need-same-length Inv-loop μ-loop
-same-length c = search needs
+same-length c = c .before .loop .inv .long
 
 returns : tie.Need-returns Inv-loop μ-loop
-returns c = search needs
+returns c = c .before .loop .inv
 
 pub sizes-spec : {M : Type 1} → statement M
 sizes-spec =

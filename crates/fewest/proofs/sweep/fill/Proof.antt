@@ -19,7 +19,7 @@ settle-requires c κs =
     let levelled = c .before .before .before .before .before in
     let cleared = levelled .before .before .before .before .before in
     let pre = cleared .before .before .before .before .before .before .pre in
-    (pre .0, hinted-full (levelled .levels .ensures) (cleared .clear .kept .0 ∙ pre .1), pre .2)
+    (pre .0, hinted-full (levelled .levels .ensures .0) (cleared .clear .kept .0 ∙ pre .1), pre .2)
 
 same-length : tie.Need-same-length
 same-length c = search needs
@@ -29,8 +29,10 @@ same-length-2 c = search needs
 
 returns : tie.Need-returns
 returns c =
-    let levelled = c .before .before .before .before .before .before .before .before in
-    rw (levelled .before .before .before .before .before .clear .ensures) at (hinted-settled (levelled .levels .ensures) (c .before .before .settle .ensures))
+    let levelled = c .before .before .before .before .before .before .before .before in (
+      rw (levelled .before .before .before .before .before .clear .ensures) at (hinted-settled (levelled .levels .ensures .0) (c .before .before .settle .ensures)),
+      levelled .levels .ensures .1,
+    )
 
 pub fill-spec : {M : Type 1} → statement M
 fill-spec =

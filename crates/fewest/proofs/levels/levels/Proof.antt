@@ -1,0 +1,46 @@
+-- `fewest::levels::levels` meets its contract: the threads are laid, and all that follows keeps them.
+use Rattle.fewest.proofs.Keeping.{kept-then, threads-kept}
+use borrow.Author.Needs.{needs}
+use Rattle.fewest.proofs.levels.levels.Statement.{statement}
+use Rattle.fewest.proofs.levels.levels.Tie as tie
+
+thread-requires : tie.Need-thread-requires
+thread-requires c κs = search needs
+
+sizes-requires : tie.Need-sizes-requires
+sizes-requires c κs = search needs
+
+orders-requires : tie.Need-orders-requires
+orders-requires c κs = search needs
+
+search-all-requires : tie.Need-search-all-requires
+search-all-requires c κs = search needs
+
+same-length : tie.Need-same-length
+same-length c = search needs
+
+same-length-2 : tie.Need-same-length-2
+same-length-2 c = search needs
+
+returns : tie.Need-returns
+returns c =
+    let after-search-all = c .before .before .before .before in
+    let after-orders = after-search-all .before .before .before .before .before in
+    let after-sizes = after-orders .before .before .before .before in
+    let after-thread = after-sizes .before .before .before .before in
+    let few = after-thread .before .before .before .before .before .before .pre .0 .good .few in
+    let searched = after-search-all .search-all .ensures in
+    let kept = kept-then (kept-then (after-sizes .sizes .ensures) (after-orders .orders .ensures)) (searched .scratch) in
+    (searched .numbers, λ long. threads-kept few kept _ (after-thread .thread .ensures long))
+
+pub levels-spec : {M : Type 1} → statement M
+levels-spec =
+    tie.close
+    (tie.spec
+    thread-requires
+    sizes-requires
+    orders-requires
+    search-all-requires
+    same-length
+    same-length-2
+    returns)

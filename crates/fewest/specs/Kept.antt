@@ -1,0 +1,19 @@
+-- What the levels leave of scratch: they store in free cells alone, so the threads before those stay.
+use Prim.Native.Nat.{ℕ, _<_}
+use mathlib.Core.Path.{_≡_}
+use mathlib.Core.List.{List}
+use lib.ListN.{length, getD}
+use Rattle.meaning.specs.Fewest.{Goal}
+use Rattle.fewest.specs.Cells.{cells}
+use Rattle.fewest.specs.Threads.{free}
+use Rattle.fewest.specs.Work.{Hinted}
+
+-- the cells before the free ones are as they were
+pub record Kept (X Y : List ℕ) : Type 0 where
+  pub long : length Y ≡ length X
+  pub same : (i : ℕ) → i < free → getD (cells Y) i 0 ≡ getD (cells X) i 0
+
+-- the numbers are reached by lowering, and of scratch the threads are kept
+pub record Levelled (b : List ℕ) (n : ℕ) (rule up role first : List ℕ) (g : Goal) (N N′ X X′ : List ℕ) : Type 0 where
+  pub numbers : Hinted b n rule up role first g N N′
+  pub scratch : Kept X X′
