@@ -45,7 +45,8 @@ use records::rule::record_of;
 use records::site::triple_at;
 ghost use mathlib.Core.Path.{_≡_};
 ghost use mathlib.Core.Logic.{_≢_};
-ghost use Prim.Native.Nat.{_<_};
+ghost use Prim.Native.Nat.{_*_, _<_};
+ghost use lib.ListN.{length};
 ghost use Rattle.meaning.specs.Limits.{terms, records};
 ghost use Rattle.meaning.specs.Move.{self};
 ghost use Rattle.records.specs.Sites.{Accepted, siteOf};
@@ -1759,7 +1760,7 @@ pub fn levels<'a>(
     scratch: &mut [u8],
     numbers: &mut [u8],
 )
-    requires { ⌜ Ready (now site) triples (now rule) (now starts) count (now up) (now role) (now first) × Full (now numbers) ⌝ }
+    requires { ⌜ Ready (now site) triples (now rule) (now starts) count (now up) (now role) (now first) × Full (now numbers) × (length (now scratch) ≡ records * terms) ⌝ }
     ensures { λ _. ⌜ Hinted (now (site .entry)) triples (now (rule .entry)) (now (up .entry)) (now (role .entry)) (now (first .entry)) (goalOf goal) (now (numbers .entry)) (now (numbers .exit)) ⌝ }
 {
     let mut hints = [0u16; HINTS];

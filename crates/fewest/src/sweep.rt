@@ -14,7 +14,7 @@ use records::TERMS;
 use records::rule::record_of;
 ghost use mathlib.Core.Path.{_≡_};
 ghost use Prim.Native.Nat.{_*_, _<_};
-ghost use lib.ListN.{replicate};
+ghost use lib.ListN.{length, replicate};
 ghost use Rattle.meaning.specs.Limits.{terms, records, none};
 ghost use Rattle.records.specs.Sites.{Accepted, siteOf};
 ghost use Rattle.records.specs.Words.{WordsOf};
@@ -258,7 +258,7 @@ pub fn fill<'a>(
     scratch: &mut [u8],
     numbers: &mut [u8],
 )
-    requires { ⌜ Ready (now site) triples (now rule) (now starts) count (now up) (now role) (now first) × Full (now numbers) × WordsOf (siteOf (now site) triples) (now words) ⌝ }
+    requires { ⌜ Ready (now site) triples (now rule) (now starts) count (now up) (now role) (now first) × Full (now numbers) × WordsOf (siteOf (now site) triples) (now words) × (length (now scratch) ≡ records * terms) ⌝ }
     ensures { λ _. ⌜ SettledOver (now (site .entry)) triples (now (rule .entry)) (now (up .entry)) (now (role .entry)) (now (first .entry)) (goalOf goal) (replicate (records * terms) none) (pairs (now (numbers .exit))) ⌝ }
 {
     clear(numbers);
