@@ -8,12 +8,12 @@ use native.Mathlib.Decide.{ℕ-discrete, decLt}
 use lib.ListN.{length, getD, set, length-set}
 use lib.Seq.{getD-set-same, getD-set-other}
 use Rattle.meaning.specs.Limits.{terms, triples, records}
-use Rattle.meaning.specs.Site.{Triple, triple}
+use Rattle.meaning.specs.Site.{Triple}
 use Rattle.records.specs.Sites.{subjectPart, predicatePart, objectPart, termAt, Accepted, siteOf}
 use Rattle.records.specs.Rules.{lastAxis, axisNumbered}
 use Rattle.records.proofs.SiteRecord.{Terms}
 use Rattle.records.proofs.Parts.{byParts, triple-terms, triple-parts}
-use Rattle.records.proofs.Halving.{accepted-rises}
+use Rattle.records.proofs.Subjects.{accepted-rises}
 use Rattle.fewest.specs.Cells.{cells, nothing}
 use Rattle.fewest.specs.Work.{Has}
 use Rattle.fewest.specs.Threads.{subject-first, predicate-first, object-first, predicate-next, object-next, free, FirstWith, Firsts, Threaded, subjectOf, predicateOf, objectOf, ThreadsFrom, Threads, Blank, Headed, startBy, ThreadNext, SubjectNext}

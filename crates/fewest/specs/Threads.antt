@@ -1,11 +1,11 @@
 -- The triples threaded by their terms, in cells: for each term its first triple, for each triple the next with the same predicate
 -- and object. By subject the next is the triple after. Who goes from the first to the next meets every triple of the term, in order.
-use Prim.Native.Nat.{ℕ, suc, _+_, _*_, _<_, _≤_}
+use Prim.Native.Nat.{ℕ, suc, _+_, _<_, _≤_}
 use mathlib.Core.Path.{_≡_}
 use mathlib.Core.Logic.{_≢_}
 use mathlib.Core.List.{List}
 use lib.ListN.{length, getD, set}
-use Rattle.meaning.specs.Limits.{terms, triples, records}
+use Rattle.meaning.specs.Limits.{terms, triples}
 use Rattle.meaning.specs.Site.{Triple, Site, triple}
 use Rattle.meaning.specs.Move.{start, finish, Axis, self, ahead, inverse}
 use Rattle.records.specs.Sites.{Accepted, siteOf}
@@ -74,7 +74,7 @@ pub record Headed (first next k : ℕ) (C D : List ℕ) : Type 0 where
 
 -- triple k was threaded, and those behind it are as they were
 abbrev pub ThreadedOne : List ℕ → ℕ → List ℕ → List ℕ → Type 0
-ThreadedOne b k X Y = (n : ℕ) → Accepted b n → k < n → length X ≡ records * terms → ThreadsFrom b n (suc k) X → ThreadsFrom b n k Y
+ThreadedOne b k X Y = (n : ℕ) → Accepted b n → k < n → ThreadsFrom b n (suc k) X → ThreadsFrom b n k Y
 
 -- where a triple starts along an axis; staying takes none
 abbrev pub startAlong : Axis → Triple → ℕ

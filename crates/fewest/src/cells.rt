@@ -50,13 +50,10 @@ pub fn put_cell(scratch: &mut [u8], i: usize, v: usize)
 
 // The cell takes a value and loses its marks: for the time before any stands.
 pub fn put_new(scratch: &mut [u8], i: usize, v: usize)
-    requires { ⌜ v < values ⌝ }
+    requires { ⌜ (i + i + 1 < length (now scratch)) × (v < values) ⌝ }
     ensures { λ _. ⌜ cells (now (scratch .exit)) ≡ set (cells (now (scratch .entry))) i v ⌝ }
 {
-    if scratch.len() / 2 <= i {
-        return;
-    }
-    scratch[i + i] = (v / HALF % HALF * LOW) as u8;
+    scratch[i + i] = (v / HALF * LOW) as u8;
     scratch[i + i + 1] = (v % HALF * LOW) as u8;
 }
 

@@ -48,8 +48,8 @@ use records::rule::record_of;
 use records::site::triple_at;
 ghost use mathlib.Core.Path.{_≡_};
 ghost use mathlib.Core.Logic.{_≢_};
-ghost use lib.ListN.{length};
 ghost use Prim.Native.Nat.{_*_, _<_};
+ghost use lib.ListN.{length};
 ghost use Rattle.meaning.specs.Limits.{terms, records};
 ghost use Rattle.meaning.specs.Move.{self};
 ghost use Rattle.records.specs.Sites.{Accepted, siteOf};
@@ -1620,8 +1620,8 @@ pub fn levels<'a>(
     scratch: &mut [u8],
     numbers: &mut [u8],
 )
-    requires { ⌜ Ready (now site) triples (now rule) (now starts) count (now up) (now role) (now first) × Full (now numbers) ⌝ }
-    ensures { λ _. ⌜ Hinted (now (site .entry)) triples (now (rule .entry)) (now (up .entry)) (now (role .entry)) (now (first .entry)) (goalOf goal) (now (numbers .entry)) (now (numbers .exit)) × (length (now (scratch .entry)) ≡ records * terms → Threads (now (site .entry)) triples (now (scratch .exit))) ⌝ }
+    requires { ⌜ Ready (now site) triples (now rule) (now starts) count (now up) (now role) (now first) × Full (now numbers) × (length (now scratch) ≡ records * terms) ⌝ }
+    ensures { λ _. ⌜ Hinted (now (site .entry)) triples (now (rule .entry)) (now (up .entry)) (now (role .entry)) (now (first .entry)) (goalOf goal) (now (numbers .entry)) (now (numbers .exit)) × Threads (now (site .entry)) triples (now (scratch .exit)) ⌝ }
 {
     thread(site, triples, scratch);
     sizes(rule, starts, count, first, scratch);

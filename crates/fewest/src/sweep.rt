@@ -259,8 +259,8 @@ pub fn fill<'a>(
     scratch: &mut [u8],
     numbers: &mut [u8],
 )
-    requires { ⌜ Ready (now site) triples (now rule) (now starts) count (now up) (now role) (now first) × Full (now numbers) × WordsOf (siteOf (now site) triples) (now words) ⌝ }
-    ensures { λ _. ⌜ SettledOver (now (site .entry)) triples (now (rule .entry)) (now (up .entry)) (now (role .entry)) (now (first .entry)) (goalOf goal) (replicate (records * terms) none) (pairs (now (numbers .exit))) × (length (now (scratch .entry)) ≡ records * terms → Threads (now (site .entry)) triples (now (scratch .exit))) ⌝ }
+    requires { ⌜ Ready (now site) triples (now rule) (now starts) count (now up) (now role) (now first) × Full (now numbers) × WordsOf (siteOf (now site) triples) (now words) × (length (now scratch) ≡ records * terms) ⌝ }
+    ensures { λ _. ⌜ SettledOver (now (site .entry)) triples (now (rule .entry)) (now (up .entry)) (now (role .entry)) (now (first .entry)) (goalOf goal) (replicate (records * terms) none) (pairs (now (numbers .exit))) × Threads (now (site .entry)) triples (now (scratch .exit)) ⌝ }
 {
     clear(numbers);
     levels(

@@ -9,7 +9,7 @@ use records::site::OBJECT;
 use records::site::PREDICATE;
 use records::site::SUBJECT;
 use records::site::term_at;
-ghost use Prim.Native.Nat.{_*_, _<_};
+ghost use Prim.Native.Nat.{_+_, _*_, _<_};
 ghost use mathlib.Core.Path.{_≡_};
 ghost use lib.ListN.{length};
 ghost use Rattle.meaning.specs.Limits.{terms, records};
@@ -42,19 +42,21 @@ fn clear(scratch: &mut [u8])
     }
 }
 
-// Triple k becomes the first of a thread.
+// Triple k becomes the first of a thread. What the thread's cell held goes into the triple's own byte by byte: no mark stands yet.
 fn head(scratch: &mut [u8], first: usize, next: usize, k: usize)
-    requires { ⌜ k < values ⌝ }
+    requires { ⌜ (first + first + 1 < length (now scratch)) × (next + next + 1 < length (now scratch)) × (k < values) ⌝ }
     ensures { λ _. ⌜ Headed first next k (cells (now (scratch .entry))) (cells (now (scratch .exit))) ⌝ }
 {
-    let was = cell(scratch, first);
-    put_new(scratch, next, was);
+    let high = scratch[first + first];
+    let low = scratch[first + first + 1];
+    scratch[next + next] = high;
+    scratch[next + next + 1] = low;
     put_new(scratch, first, k);
 }
 
 // Triple k becomes the first of its threads.
 fn thread_one(site: &[u8], k: usize, scratch: &mut [u8])
-    requires { ⌜ Has (now site) k ⌝ }
+    requires { ⌜ Has (now site) k × (length (now scratch) ≡ records * terms) ⌝ }
     ensures { λ _. ⌜ ThreadedOne (now (site .entry)) k (now (scratch .entry)) (now (scratch .exit)) ⌝ }
 {
     let subject = term_at(site, k, SUBJECT);
@@ -67,8 +69,8 @@ fn thread_one(site: &[u8], k: usize, scratch: &mut [u8])
 
 // The threads of a site: from the last triple to the first, so that each goes up.
 pub fn thread(site: &[u8], triples: usize, scratch: &mut [u8])
-    requires { ⌜ Accepted (now site) triples ⌝ }
-    ensures { λ _. ⌜ (length (now (scratch .entry)) ≡ records * terms → Threads (now (site .entry)) triples (now (scratch .exit))) ⌝ }
+    requires { ⌜ Accepted (now site) triples × (length (now scratch) ≡ records * terms) ⌝ }
+    ensures { λ _. ⌜ Threads (now (site .entry)) triples (now (scratch .exit)) ⌝ }
 {
     clear(scratch);
     let mut k = triples;

@@ -8,7 +8,7 @@ pub mod TermTables
 pub mod Vocabulary
 pub mod Readers
 pub mod ReaderParts
-pub mod Halving
+pub mod Subjects
 pub mod Reading
 pub mod Progress
 pub mod Checked

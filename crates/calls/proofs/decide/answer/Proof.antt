@@ -17,7 +17,7 @@ fill-requires : tie.Need-fill-requires
 unfolding Full
 fill-requires c κs =
     let pre = c .before .before .before .before .before .before .before .before .before .pre in
-    (given-ready (pre .0), pre .3 .numbers-fit, c .before .before .before .words-of .ensures)
+    (given-ready (pre .0), pre .3 .numbers-fit, c .before .before .before .words-of .ensures, pre .3 .asked-fits)
 
 show-requires : tie.Need-show-requires
 show-requires c κs =

@@ -27,7 +27,7 @@ returns c =
     record { steps = steps; bounded = bounded; written = λ some few. absurd (omega arith); unrelated = λ e. refl; too-long = λ h. refl }
 
 thread-requires : tie.Need-thread-requires
-thread-requires c κs = given-ready (c .before .before .before .before .before .before .before .before .pre .0) .good
+thread-requires c κs = let pre = c .before .before .before .before .before .before .before .before .pre in (given-ready (pre .0) .good, pre .3 .asked-fits)
 
 write-bytes-requires : tie.Need-write-bytes-requires
 unfolding none room-steps Full
@@ -35,7 +35,7 @@ write-bytes-requires c κs =
     let pre = c .before .before .before .before .before .before .before .before .before .before .before .before .before .pre in
     let (steps, bounded) = c .before .before .before .before .before .before .before .number .ensures in (
       given-ready (pre .0),
-      c .before .before .before .before .thread .ensures (pre .3 .asked-fits),
+      c .before .before .before .before .thread .ensures,
       pre .3 .numbers-fit,
       pre .2,
       record { numbers = 3 * room-steps; long = pre .4; enough = omega arith },

@@ -17,7 +17,7 @@ words-of-requires c κs = given-ready (c .before .before .before .before .before
 fill-requires : tie.Need-fill-requires
 fill-requires c κs =
     let pre = c .before .before .before .before .before .before .before .before .before .before .before .pre in
-    (given-ready (pre .0), pre .4, c .before .before .before .words-of .ensures)
+    (given-ready (pre .0), pre .4, c .before .before .before .words-of .ensures, pre .3 .asked-fits)
 
 show-words-requires : tie.Need-show-words-requires
 unfolding Whole Full

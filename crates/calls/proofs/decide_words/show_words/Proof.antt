@@ -30,15 +30,16 @@ returns-2 c =
     record { steps = steps; bounded = bounded; written = λ some few. absurd (omega arith); unrelated = λ e. refl; too-long = λ h. refl }
 
 thread-requires : tie.Need-thread-requires
-thread-requires c κs = given-ready (c .before .before .before .before .before .before .before .before .before .pre .0) .good
+unfolding Whole
+thread-requires c κs = let pre = c .before .before .before .before .before .before .before .before .before .pre in (given-ready (pre .0) .good, pre .3)
 
 write-words-requires : tie.Need-write-words-requires
-unfolding none Whole
+unfolding none
 write-words-requires c κs =
     let pre = c .before .before .before .before .before .before .before .before .before .before .before .before .before .before .pre in
     let (steps, bounded) = c .before .before .before .before .before .before .before .before .number .ensures in (
       given-ready (pre .0),
-      c .before .before .before .before .thread .ensures (pre .3),
+      c .before .before .before .before .thread .ensures,
       pre .4,
       pre .2,
       record { numbers = pre .5 .numbers; long = pre .5 .long; enough = omega (arith, pre .5 .enough) },

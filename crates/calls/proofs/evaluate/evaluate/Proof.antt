@@ -11,10 +11,11 @@ words-of-requires : tie.Need-words-of-requires
 words-of-requires c κs = c .before .before .before .before .before .pre .0 .good
 
 fill-requires : tie.Need-fill-requires
+unfolding Whole
 fill-requires c κs =
     let shown = c .before .before .before in
     let pre = shown .before .before .before .before .before .before .pre in
-    (pre .0, pre .1, shown .words-of .ensures)
+    (pre .0, pre .1, shown .words-of .ensures, pre .2)
 
 ask-requires : tie.Need-ask-requires
 unfolding Full Whole

@@ -13,10 +13,11 @@ words-of-requires : tie.Need-words-of-requires
 words-of-requires c κs = given-ready (c .before .before .before .before .before .pre .0) .good
 
 fill-requires : tie.Need-fill-requires
+unfolding Whole
 fill-requires c κs =
     let shown = c .before .before .before in
     let pre = shown .before .before .before .before .before .before .pre in
-    (given-ready (pre .0), pre .1, shown .words-of .ensures)
+    (given-ready (pre .0), pre .1, shown .words-of .ensures, pre .2)
 
 sub-tell : tie.Need-sub-tell
 sub-tell c = omega (arith, given-some (c .before .before .before .before .before .before .before .before .before .before .before .before .before .before .before .pre .0))

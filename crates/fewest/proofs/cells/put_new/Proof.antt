@@ -1,19 +1,13 @@
 -- `fewest::cells::put_new` meets its contract: the two bytes that it stores are the value.
 use Prim.Native.Nat.{_*_, _/_, _%_, _+_}
-use mathlib.Core.Path.{_≡_, sym, _∙_, ap}
+use mathlib.Core.Path.{_≡_, _∙_, ap}
 use native.Mathlib.Omega.{arith}
 use lib.ListN.{set, length-set}
-use lib.Seq.{set-out}
 use Rattle.fewest.specs.Cells.{half, lowest, cells}
-use Rattle.fewest.proofs.Decoded.{cells-set, cells-long}
+use Rattle.fewest.proofs.Decoded.{cells-set}
 use borrow.Author.Needs.{needs}
 use Rattle.fewest.proofs.cells.put_new.Statement.{statement}
 use Rattle.fewest.proofs.cells.put_new.Tie as tie
-
-returns : tie.Need-returns
-returns c =
-    let x = c .before .args in
-    sym (set-out (cells (x .scratch .now)) (x .i) (x .v) (rw (cells-long (x .scratch .now)) (c .if1 .taken)))
 
 mul-scratch : tie.Need-mul-scratch
 mul-scratch c = search needs
@@ -45,17 +39,16 @@ slice-write-scratch-2 c = simp length-set (omega arith)
 same-length : tie.Need-same-length
 same-length c = search needs
 
-returns-2 : tie.Need-returns-2
-returns-2 c =
-    let x = c .before .args in
-    let e : (x .v) / half % half * lowest / lowest * half + (x .v) % half * lowest / lowest ≡ x .v = omega arith in
-    cells-set (x .scratch .now) (x .i) _ _ (omega arith) ∙ ap (set (cells (x .scratch .now)) (x .i)) e
+returns : tie.Need-returns
+returns c =
+    let x = c .args in
+    let e : (x .v) / half * lowest / lowest * half + (x .v) % half * lowest / lowest ≡ x .v = omega arith in
+    cells-set (x .scratch .now) (x .i) _ _ (c .pre .0) ∙ ap (set (cells (x .scratch .now)) (x .i)) e
 
 pub put-new-spec : {M : Type 1} → statement M
 put-new-spec =
     tie.close
     (tie.spec
-    returns
     mul-scratch
     cast-scratch
     add-scratch
@@ -66,4 +59,4 @@ put-new-spec =
     add-scratch-3
     slice-write-scratch-2
     same-length
-    returns-2)
+    returns)

@@ -31,7 +31,7 @@ returns c =
     let few = after-thread .before .before .before .before .before .before .pre .0 .good .few in
     let searched = after-search-all .search-all .ensures in
     let kept = kept-then (kept-then (after-sizes .sizes .ensures) (after-orders .orders .ensures)) (searched .scratch) in
-    (searched .numbers, λ long. threads-kept few kept _ (after-thread .thread .ensures long))
+    (searched .numbers, threads-kept few kept _ (after-thread .thread .ensures))
 
 pub levels-spec : {M : Type 1} → statement M
 levels-spec =

@@ -11,7 +11,7 @@ clear-requires c κs = search needs
 
 levels-requires : tie.Need-levels-requires
 unfolding Full
-levels-requires c κs = let pre = c .before .before .before .before .before .before .before .before .before .before .pre in (pre .0, c .before .before .before .before .clear .kept .0 ∙ pre .1)
+levels-requires c κs = let pre = c .before .before .before .before .before .before .before .before .before .before .pre in (pre .0, c .before .before .before .before .clear .kept .0 ∙ pre .1, pre .3)
 
 settle-requires : tie.Need-settle-requires
 unfolding Full
