@@ -2,3 +2,4 @@
 pub mod Mark
 pub mod Seek
 pub mod Chase
+pub mod Count

@@ -9,7 +9,7 @@ use Rattle.meaning.specs.Question.{Count}
 use Rattle.meaning.proofs.Counting.{count-told}
 use Rattle.fewest.specs.Sweep.{sum}
 use Rattle.asked.specs.Seek.{Bits}
-use Rattle.asked.proofs.Sums.{sum-total, summed-bits}
+use Rattle.asked.proofs.Sums.{sum-few}
 use Rattle.calls.specs.Tables.{TermTable}
 
 module _ {P : ℕ → Type 0} {b : List ℕ} (x : TermTable P b) where
@@ -27,4 +27,4 @@ module _ {P : ℕ → Type 0} {b : List ℕ} (x : TermTable P b) where
 
   -- which is at most the number of terms.
   pub table-few : sum b ≤ terms
-  table-few = rw (← (x .long)) (summed-bits b (length b) table-bits (sum-total b))
+  table-few = rw (← (x .long)) (sum-few b table-bits)

@@ -1,34 +1,45 @@
--- `asked::count::count` meets its contract: the entries passed are summed, and each adds at most 1, so the sum fits.
--- The measure is what is left of the table.
-use Prim.Native.Nat.{_≤_, _-_}
+-- `asked::count::count` meets its contract: the parts passed are counted, then the rest behind them.
+-- The measure is how many parts are left.
+use Prim.Native.Nat.{_≤_, _-_, _+_, _*_}
+use mathlib.Core.Path.{_≡_, refl}
 use native.Mathlib.Omega.{arith}
-use lib.ListN.{length}
+use lib.ListN.{length, take}
+use Rattle.asked.specs.Count.{part, Ones}
 use Rattle.asked.specs.Seek.{Bits}
-use Rattle.asked.proofs.Sums.{Summed, summed-none, summed-more, summed-all, summed-bits}
+use Rattle.asked.proofs.Sums.{ones-none, ones-then, ones-to, ones-most, ones-all}
 use Rattle.asked.proofs.count.count.Statement.{statement}
 use Rattle.asked.proofs.count.count.Tie as tie
 
 abbrev Inv-loop : tie.InvT-loop
-Inv-loop table n₀ i₀ n i = (i ≤ length table) × Summed table i n
+Inv-loop table parts n₀ i₀ n i = (i ≤ parts) × Ones table 0 (i * part) n
 
 abbrev μ-loop : tie.MeasureT-loop
-μ-loop table n₀ i₀ n i = length table - i
+μ-loop table parts n₀ i₀ n i = parts - i
 
 loop-holds : tie.Need-loop-holds Inv-loop μ-loop
-loop-holds c = (omega arith, summed-none (c .args .table .now))
+unfolding part
+loop-holds c = (omega arith, ones-none (c .before .args .table .now) 0)
 
-shared-slice-read-n : tie.Need-shared-slice-read-n Inv-loop μ-loop
-shared-slice-read-n c = omega arith
+mul-at : tie.Need-mul-at Inv-loop μ-loop
+mul-at c = omega arith
 
-cast-n : tie.Need-cast-n Inv-loop μ-loop
-cast-n c = omega (arith, c .shared-slice-known .given (c .before .before .loop .i))
+add-count-part : tie.Need-add-count-part Inv-loop μ-loop
+add-count-part c = omega arith
+
+count-part-requires : tie.Need-count-part-requires Inv-loop μ-loop
+unfolding part
+count-part-requires c κs = (c .before .before .before .pre, omega arith, omega arith, omega arith)
+
+wide-requires : tie.Need-wide-requires Inv-loop μ-loop
+wide-requires c κs = tt
 
 add-n : tie.Need-add-n Inv-loop μ-loop
-unfolding Bits
+unfolding part
 add-n c =
-    let at = c .before .before .loop in
-    let start = c .before .before .before in
-    omega (arith, start .pre (at .i), summed-bits (start .args .table .now) (at .i) (start .pre) (at .inv .1))
+    let at = c .before .before .before .loop in
+    let start = c .before .before .before .before .before in
+    let all = ones-then (start .args .table .now) (at .inv .1) (c .before .count-part .ensures) (omega arith) in
+    omega (arith, ones-most (start .args .table .now) (start .pre) all, c .wide .ensures)
 
 add-i : tie.Need-add-i Inv-loop μ-loop
 add-i c = omega arith
@@ -37,12 +48,37 @@ loop-less : tie.Need-loop-less Inv-loop μ-loop
 loop-less c = omega arith
 
 loop-again : tie.Need-loop-again Inv-loop μ-loop
+unfolding part
 loop-again c =
-    let at = c .before .before .loop in
-    (omega arith, summed-more (c .before .before .before .args .table .now) (at .i) (at .inv .1))
+    let at = c .before .before .before .loop in
+    let start = c .before .before .before .before .before in
+    let all = ones-then (start .args .table .now) (at .inv .1) (c .before .count-part .ensures) (omega arith) in
+    (omega arith, rw (c .wide .ensures .0) (ones-to (start .args .table .now) (omega arith) all))
+
+mul-count-part : tie.Need-mul-count-part Inv-loop μ-loop
+mul-count-part c = omega arith
+
+count-part-requires-2 : tie.Need-count-part-requires-2 Inv-loop μ-loop
+unfolding part
+count-part-requires-2 c κs = (c .before .before .before .pre, omega arith, omega arith, omega arith)
+
+wide-requires-2 : tie.Need-wide-requires-2 Inv-loop μ-loop
+wide-requires-2 c κs = tt
+
+add-result : tie.Need-add-result Inv-loop μ-loop
+unfolding part
+add-result c =
+    let at = c .before .before .before .loop in
+    let start = c .before .before .before .before .before in
+    let all = ones-then (start .args .table .now) (at .inv .1) (c .before .count-part2 .ensures) (omega arith) in
+    omega (arith, ones-most (start .args .table .now) (start .pre) all, c .wide2 .ensures)
 
 returns : tie.Need-returns Inv-loop μ-loop
-returns c = summed-all (c .before .before .args .table .now) (c .before .loop .i) (omega arith) (c .before .loop .inv .1)
+unfolding part
+returns c =
+    let at = c .before .before .before .loop in
+    let start = c .before .before .before .before .before in
+    ones-all (start .args .table .now) (rw (c .wide2 .ensures .0) (ones-then (start .args .table .now) (at .inv .1) (c .before .count-part2 .ensures) (omega arith)))
 
 pub count-spec : {M : Type 1} → statement M
 count-spec =
@@ -51,10 +87,16 @@ count-spec =
     Inv-loop
     μ-loop
     loop-holds
-    shared-slice-read-n
-    cast-n
+    mul-at
+    add-count-part
+    count-part-requires
+    wide-requires
     add-n
     add-i
     loop-less
     loop-again
+    mul-count-part
+    count-part-requires-2
+    wide-requires-2
+    add-result
     returns)
