@@ -62,6 +62,11 @@ module _ {s : Site} {up role : List ℕ} {g : Goal} {k r : ℕ} {a : Axis} (l : 
       λ t p u w move passes c. let (_, past, _) = taken .alone t p u move in
       let z : _≡_ {A = ℕ} 0 1 = cc (rw past at passes) in absurd (omega arith)
 
+-- The entry is 1 at most: no step offers less.
+pub look-low : {s : Site} {up role : List ℕ} {g : Goal} {k r : ℕ} {a : Axis} (l : Label) (T : List ℕ) {m : Moved} {was : Bool} →
+    Taken s k a m → view T r (m .from) ≤ 1 → Looks (frame s up role g) (workOf a l) r (QuietBy (frame s up role g) a l r k) T T was was
+look-low l T taken low = swept-none lowers-chain λ t p u w move passes c. let (from, _, to) = taken .alone t p u move in rw from (omega arith)
+
 -- Staying at t is offered at its cost, where one may stay and the label lets t pass.
 rest-offer : {F : Frame} {T : List ℕ} {r t v : ℕ} (l : Label) (cost : ℕ) → cost < 2 → MayRest (F .site) l cost t → allowing T l r t ≡ true →
     Continues F T r t v → Offer F T r t (stayingBy cost l) (v + cost)

@@ -93,7 +93,8 @@ pub fn allows(numbers: &[u8], label: Label, r: usize, middle: usize) -> bool
     }
 }
 
-// Triple k for the step of record r: the entry where the triple begins is lowered to one more than what is left where it ends.
+// Triple k for the step of record r: the entry where the triple begins is lowered to one more than what is left where it ends. No
+// step leads to the finish with less than one, so that then nothing is looked up.
 pub fn look<'a>(
     site: &[u8],
     k: usize,
@@ -111,6 +112,9 @@ pub fn look<'a>(
 {
     let m = move_at(site, k, parts);
     if allows(numbers, label, r, m.middle) {
+        if number(numbers, r, m.from) <= 1 {
+            return was;
+        }
         let rest = left(numbers, up, role, goal, r, m.to);
         return lower(numbers, r, m.from, rest + 1, was);
     }

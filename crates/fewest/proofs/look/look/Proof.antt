@@ -1,11 +1,11 @@
 -- `fewest::look::look` meets its contract: the triple is the axis's one move by it; the label lets its middle pass and its offer
--- is looked at, or nothing is offered.
+-- is looked at, or nothing is offered, or nothing that is lower.
 use borrow.Author.Needs.{needs}
 use native.Mathlib.Omega.{arith}
 use Rattle.meaning.specs.Limits.{none}
 use Rattle.fewest.specs.Pairs.{pairs}
 use Rattle.fewest.proofs.Axes.{Terms, moved-terms, moved-taken}
-use Rattle.fewest.proofs.Looks.{look-passes, look-barred}
+use Rattle.fewest.proofs.Looks.{look-passes, look-barred, look-low}
 use Rattle.fewest.proofs.look.look.Statement.{statement}
 use Rattle.fewest.proofs.look.look.Tie as tie
 
@@ -23,9 +23,25 @@ allows-requires c κs =
     let pre = c .before .before .before .before .pre in
     (pre .1, pre .3, in-terms (c .before) .middle, pre .4)
 
+number-requires : tie.Need-number-requires
+number-requires c κs =
+    let y = c .before .before .before .before in
+    let pre = y .before .before .before .pre in
+    (pre .1, pre .3, in-terms y .from)
+
+same-length : tie.Need-same-length
+same-length c = search needs
+
+returns : tie.Need-returns
+returns c =
+    let y = c .before .before .before .before .before .before in
+    let args = y .before .before .before .args in
+    λ n a good h so e l. look-low (args .label) (pairs (args .numbers .now)) (moved-taken (y .move-at .ensures) good h a so e l)
+    (omega arith)
+
 left-requires : tie.Need-left-requires
 left-requires c κs =
-    let y = c .before .before .before .before in
+    let y = c .before .before .before .before .before .before .before in
     let pre = y .before .before .before .pre in
     (pre .1, pre .2, pre .3, in-terms y .to)
 
@@ -35,27 +51,27 @@ add-lower c = omega arith
 
 lower-requires : tie.Need-lower-requires
 lower-requires c κs =
-    let y = c .before .before .before .before .before .before in
+    let y = c .before .before .before .before .before .before .before .before .before in
     let pre = y .before .before .before .pre in
     (pre .1, pre .3, in-terms y .from)
-
-same-length : tie.Need-same-length
-same-length c = search needs
-
-returns : tie.Need-returns
-returns c =
-    let z = c .before .before .before .before in
-    let y = z .before .before .before .before .before in
-    let args = y .before .before .before .args in
-    λ n a good h so e l. look-passes (args .label) (pairs (args .numbers .now))
-    (moved-taken (y .move-at .ensures) good h a so e l)
-    (z .before .before .before .allows .ensures) (z .before .before .if1 .taken) (in-terms y .from) (z .left .ensures) (c .before .before .lower .ensures)
 
 same-length-2 : tie.Need-same-length-2
 same-length-2 c = search needs
 
 returns-2 : tie.Need-returns-2
 returns-2 c =
+    let z = c .before .before .before .before in
+    let y = z .before .before .before .before .before .before .before .before in
+    let args = y .before .before .before .args in
+    λ n a good h so e l. look-passes (args .label) (pairs (args .numbers .now))
+    (moved-taken (y .move-at .ensures) good h a so e l)
+    (z .before .before .before .before .before .before .allows .ensures) (z .before .before .before .before .before .if1 .taken) (in-terms y .from) (z .left .ensures) (c .before .before .lower .ensures)
+
+same-length-3 : tie.Need-same-length-3
+same-length-3 c = search needs
+
+returns-3 : tie.Need-returns-3
+returns-3 c =
     let y = c .before .before .before in
     let args = y .before .before .before .args in
     λ n a good h so e l. look-barred (args .label) (pairs (args .numbers .now)) (moved-taken (y .move-at .ensures) good h a so e l)
@@ -67,10 +83,13 @@ look-spec =
     (tie.spec
     move-at-requires
     allows-requires
+    number-requires
+    same-length
+    returns
     left-requires
     add-lower
     lower-requires
-    same-length
-    returns
     same-length-2
-    returns-2)
+    returns-2
+    same-length-3
+    returns-3)
