@@ -1,4 +1,5 @@
 -- What the byte table's functions promise.
 pub mod Mark
+pub mod Serve
 pub mod Seek
 pub mod Chase

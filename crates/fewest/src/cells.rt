@@ -7,8 +7,7 @@ use records::bytes::BASE;
 ghost use mathlib.Core.Path.{_≡_};
 ghost use Prim.Native.Nat.{_<_};
 ghost use lib.ListN.{length, getD, set};
-ghost use Rattle.fewest.specs.Lows.{lows};
-ghost use Rattle.fewest.specs.Cells.{values, cells};
+ghost use Rattle.fewest.specs.Cells.{values, cells, HalfPut, CellPut};
 
 // A cell's value is below this; a cell that names nothing has the greatest.
 pub const CELL: usize = HALF * HALF;
@@ -34,14 +33,14 @@ pub fn cell(scratch: &[u8], i: usize) -> usize
 // The high six bits of a byte take a value, the low ones stay.
 fn put_half(scratch: &mut [u8], at: usize, v: usize)
     requires { ⌜ at < length (now scratch) ⌝ }
-    ensures { λ _. ⌜ lows (now (scratch .exit)) ≡ lows (now (scratch .entry)) ⌝ }
+    ensures { λ _. ⌜ HalfPut at (now (scratch .entry)) (now (scratch .exit)) ⌝ }
 {
     scratch[at] = (v % HALF * LOW + wide(scratch[at]) % LOW) as u8;
 }
 
 // The cell takes a value; the marks stay.
 pub fn put_cell(scratch: &mut [u8], i: usize, v: usize)
-    ensures { λ _. ⌜ lows (now (scratch .exit)) ≡ lows (now (scratch .entry)) ⌝ }
+    ensures { λ _. ⌜ CellPut i (now (scratch .entry)) (now (scratch .exit)) ⌝ }
 {
     if scratch.len() / 2 <= i {
         return;
