@@ -1,5 +1,5 @@
--- The triples threaded by their predicates and by their objects, in cells: for each term its first triple, for each triple
--- the next with the same. Who starts at the first and goes on by the next meets every triple of the term, in rising order.
+-- The triples threaded by their terms, in cells: for each term its first triple, for each triple the next with the same predicate
+-- and object. By subject the next is the triple after. Who goes from the first to the next meets every triple of the term, in order.
 use Prim.Native.Nat.{ℕ, suc, _+_, _*_, _<_, _≤_}
 use mathlib.Core.Path.{_≡_}
 use mathlib.Core.Logic.{_≢_}
@@ -12,10 +12,12 @@ use Rattle.records.specs.Sites.{Accepted, siteOf}
 use Rattle.records.specs.Rules.{lastAxis, axisNumbered}
 use Rattle.fewest.specs.Cells.{cells, nothing}
 
--- where the first triples stand, by predicate and by object, and where the next ones do; the first by subject stand before
--- them, and what is behind them is free
+-- where the first triples stand, by subject, by predicate and by object, and where the next ones do; what is behind them is free
+abbrev pub subject-first : ℕ
+subject-first = 0
+
 abbrev pub predicate-first : ℕ
-predicate-first = terms
+predicate-first = subject-first + terms
 
 abbrev pub object-first : ℕ
 object-first = predicate-first + terms
@@ -34,10 +36,17 @@ pub record FirstWith (key : ℕ → ℕ) (n t k j : ℕ) : Type 0 where
   pub own : j < n → (k ≤ j) × (key j ≡ t)
   pub least : (i : ℕ) → k ≤ i → i < n → key i ≡ t → j ≤ i
 
+-- of n triples the first of each term from number k on stands in a cell from this place on
+abbrev pub Firsts : (ℕ → ℕ) → (n at-first : ℕ) → List ℕ → ℕ → Type 0
+Firsts key n at-first C k = (t : ℕ) → t < terms → FirstWith key n t k (getD C (at-first + t) 0)
+
 -- of n triples those from number k on are threaded by this key, in cells from these two places on
 pub record Threaded (key : ℕ → ℕ) (n at-first at-next : ℕ) (C : List ℕ) (k : ℕ) : Type 0 where
-  pub first : (t : ℕ) → t < terms → FirstWith key n t k (getD C (at-first + t) 0)
+  pub first : Firsts key n at-first C k
   pub next : (i : ℕ) → k ≤ i → i < n → FirstWith key n (key i) (suc i) (getD C (at-next + i) 0)
+
+abbrev pub subjectOf : List ℕ → ℕ → ℕ → ℕ
+subjectOf b n j = triple (siteOf b n) j .subject
 
 abbrev pub predicateOf : List ℕ → ℕ → ℕ → ℕ
 predicateOf b n j = triple (siteOf b n) j .predicate
@@ -45,8 +54,9 @@ predicateOf b n j = triple (siteOf b n) j .predicate
 abbrev pub objectOf : List ℕ → ℕ → ℕ → ℕ
 objectOf b n j = triple (siteOf b n) j .object
 
--- the triples from number k on are threaded by both
+-- the triples from number k on are threaded by all three
 pub record ThreadsFrom (b : List ℕ) (n k : ℕ) (X : List ℕ) : Type 0 where
+  pub subjects : Firsts (subjectOf b n) n subject-first (cells X) k
   pub predicates : Threaded (predicateOf b n) n predicate-first predicate-next (cells X) k
   pub objects : Threaded (objectOf b n) n object-first object-next (cells X) k
 
@@ -66,13 +76,6 @@ pub record Headed (first next k : ℕ) (C D : List ℕ) : Type 0 where
 abbrev pub ThreadedOne : List ℕ → ℕ → List ℕ → List ℕ → Type 0
 ThreadedOne b k X Y = (n : ℕ) → Accepted b n → k < n → length X ≡ records * terms → ThreadsFrom b n (suc k) X → ThreadsFrom b n k Y
 
--- an axis by which a triple starts at its predicate or its object
-pub record OffSubject (axis : ℕ) : Type 0 where
-  pub moving : axis ≢ 0
-  pub not-next : axis ≢ 1
-  pub not-edge : axis ≢ 3
-  pub known : axis ≤ lastAxis
-
 -- where a triple starts along an axis; staying takes none
 abbrev pub startAlong : Axis → Triple → ℕ
 startAlong self x = x .subject
@@ -83,12 +86,17 @@ startAlong (inverse d) x = finish d x
 abbrev pub startBy : ℕ → Site → ℕ → ℕ
 startBy axis s j = startAlong (axisNumbered axis) (triple s j)
 
--- by threads the first triple that starts at t
+-- by threads the first triple that starts at t, along an axis that takes triples
 abbrev pub ThreadFirst : List ℕ → (axis t j : ℕ) → Type 0
 ThreadFirst X axis t j =
-    (b : List ℕ) (n : ℕ) → Threads b n X → OffSubject axis → t < terms → FirstWith (startBy axis (siteOf b n)) n t 0 j
+    (b : List ℕ) (n : ℕ) → Threads b n X → axis ≢ 0 → axis ≤ lastAxis → t < terms → FirstWith (startBy axis (siteOf b n)) n t 0 j
 
 -- a later triple than k; by threads the next that starts at t, where k does
 pub record ThreadNext (b : List ℕ) (n : ℕ) (X : List ℕ) (axis t k j : ℕ) : Type 0 where
   pub later : k < j
-  pub next : Threads b n X → OffSubject axis → startBy axis (siteOf b n) k ≡ t → FirstWith (startBy axis (siteOf b n)) n t (suc k) j
+  pub next : Threads b n X → axis ≢ 0 → axis ≤ lastAxis → startBy axis (siteOf b n) k ≡ t → FirstWith (startBy axis (siteOf b n)) n t (suc k) j
+
+-- a later triple than k; the next with subject t, where k has it
+pub record SubjectNext (b : List ℕ) (n t k j : ℕ) : Type 0 where
+  pub later : k < j
+  pub next : subjectOf b n k ≡ t → FirstWith (subjectOf b n) n t (suc k) j

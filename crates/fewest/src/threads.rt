@@ -1,11 +1,14 @@
 // The triples threaded by their terms, in scratch: for each term the first triple with that subject, predicate or object, and for each
-// triple the next with the same predicate and with the same object, none left out. By subject the site is in order: there a hint.
+// triple the next with the same predicate and with the same object, none left out. By subject the site is in order: the next is the one after.
 use crate::cells::CELL;
 use crate::cells::cell;
 use crate::cells::put_new;
 use records::TERMS;
 use records::TRIPLES;
-use records::site::triple_at;
+use records::site::OBJECT;
+use records::site::PREDICATE;
+use records::site::SUBJECT;
+use records::site::term_at;
 ghost use Prim.Native.Nat.{_*_, _<_};
 ghost use mathlib.Core.Path.{_≡_};
 ghost use lib.ListN.{length};
@@ -13,16 +16,16 @@ ghost use Rattle.meaning.specs.Limits.{terms, records};
 ghost use Rattle.records.specs.Sites.{Accepted};
 ghost use Rattle.fewest.specs.Cells.{values, cells};
 ghost use Rattle.fewest.specs.Work.{Has};
-ghost use Rattle.fewest.specs.Threads.{Blank, Headed, ThreadedOne, Threads, ThreadFirst, ThreadNext};
+ghost use Rattle.fewest.specs.Threads.{Blank, Headed, ThreadedOne, Threads, ThreadFirst, ThreadNext, SubjectNext};
 
 // Where the first triples and the next ones stand; what is behind them is free.
-const SUBJECT: usize = 0;
+const FIRST_SUBJECT: usize = 0;
 
-const PREDICATE: usize = SUBJECT + TERMS;
+const FIRST_PREDICATE: usize = FIRST_SUBJECT + TERMS;
 
-const OBJECT: usize = PREDICATE + TERMS;
+const FIRST_OBJECT: usize = FIRST_PREDICATE + TERMS;
 
-const NEXT_PREDICATE: usize = OBJECT + TERMS;
+const NEXT_PREDICATE: usize = FIRST_OBJECT + TERMS;
 
 const NEXT_OBJECT: usize = NEXT_PREDICATE + TRIPLES;
 
@@ -54,15 +57,12 @@ fn thread_one(site: &[u8], k: usize, scratch: &mut [u8])
     requires { ⌜ Has (now site) k ⌝ }
     ensures { λ _. ⌜ ThreadedOne (now (site .entry)) k (now (scratch .entry)) (now (scratch .exit)) ⌝ }
 {
-    let x = triple_at(site, k);
-    put_new(scratch, SUBJECT + x.subject % TERMS, k);
-    head(
-        scratch,
-        PREDICATE + x.predicate % TERMS,
-        NEXT_PREDICATE + k,
-        k,
-    );
-    head(scratch, OBJECT + x.object % TERMS, NEXT_OBJECT + k, k);
+    let subject = term_at(site, k, SUBJECT);
+    let predicate = term_at(site, k, PREDICATE);
+    let object = term_at(site, k, OBJECT);
+    put_new(scratch, FIRST_SUBJECT + subject, k);
+    head(scratch, FIRST_PREDICATE + predicate, NEXT_PREDICATE + k, k);
+    head(scratch, FIRST_OBJECT + object, NEXT_OBJECT + k, k);
 }
 
 // The threads of a site: from the last triple to the first, so that each goes up.
@@ -83,11 +83,11 @@ pub fn first_from(scratch: &[u8], axis: usize, t: usize) -> usize
     ensures { λ j. ⌜ ThreadFirst (now (scratch .entry)) axis t j ⌝ }
 {
     match axis {
-        1 => cell(scratch, SUBJECT + t % TERMS),
-        3 => cell(scratch, SUBJECT + t % TERMS),
-        2 => cell(scratch, OBJECT + t % TERMS),
-        6 => cell(scratch, OBJECT + t % TERMS),
-        _ => cell(scratch, PREDICATE + t % TERMS),
+        1 => cell(scratch, FIRST_SUBJECT + t % TERMS),
+        3 => cell(scratch, FIRST_SUBJECT + t % TERMS),
+        2 => cell(scratch, FIRST_OBJECT + t % TERMS),
+        6 => cell(scratch, FIRST_OBJECT + t % TERMS),
+        _ => cell(scratch, FIRST_PREDICATE + t % TERMS),
     }
 }
 
@@ -119,13 +119,19 @@ pub fn next_from(
     requires { ⌜ Accepted (now site) triples × (k < triples) ⌝ }
     ensures { λ j. ⌜ ThreadNext (now (site .entry)) triples (now (scratch .entry)) axis t k j ⌝ }
 {
-    match axis {
-        1 => same_subject(site, triples, t, k),
-        3 => same_subject(site, triples, t, k),
-        2 => later(triples, cell(scratch, NEXT_OBJECT + k), k),
-        6 => later(triples, cell(scratch, NEXT_OBJECT + k), k),
-        _ => later(triples, cell(scratch, NEXT_PREDICATE + k), k),
+    if axis == 1 {
+        return same_subject(site, triples, t, k);
     }
+    if axis == 3 {
+        return same_subject(site, triples, t, k);
+    }
+    if axis == 2 {
+        return later(triples, cell(scratch, NEXT_OBJECT + k), k);
+    }
+    if axis == 6 {
+        return later(triples, cell(scratch, NEXT_OBJECT + k), k);
+    }
+    later(triples, cell(scratch, NEXT_PREDICATE + k), k)
 }
 
 // A thread goes up: a next triple that does not stand later ends it.
@@ -139,16 +145,16 @@ fn later(triples: usize, next: usize, k: usize) -> usize
     next
 }
 
-// The triple after k, if it has the same subject.
+// The triple after k, if it has subject t: triples with the same subject stand together.
 fn same_subject(site: &[u8], triples: usize, t: usize, k: usize) -> usize
     requires { ⌜ Accepted (now site) triples × (k < triples) ⌝ }
-    ensures { λ j. ⌜ k < j ⌝ }
+    ensures { λ j. ⌜ SubjectNext (now (site .entry)) triples t k j ⌝ }
 {
     let next = k + 1;
     if triples <= next {
         return triples;
     }
-    if triple_at(site, next).subject == t {
+    if term_at(site, next, SUBJECT) == t {
         return next;
     }
     triples
@@ -156,9 +162,9 @@ fn same_subject(site: &[u8], triples: usize, t: usize, k: usize) -> usize
 
 // A triple that has the term as subject or object; the greatest value of a cell where the term is outside the vocabulary.
 pub fn witness(scratch: &[u8], t: usize) -> usize {
-    let k = cell(scratch, SUBJECT + t % TERMS);
+    let k = cell(scratch, FIRST_SUBJECT + t % TERMS);
     if k < CELL - 1 {
         return k;
     }
-    cell(scratch, OBJECT + t % TERMS)
+    cell(scratch, FIRST_OBJECT + t % TERMS)
 }

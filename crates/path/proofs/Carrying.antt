@@ -10,8 +10,8 @@ use lib.ListN.{length, getD}
 use lib.Dec.{eqb}
 use borrow.Author.Tests.{eqb-true, ltb-true, eq-eqb, lt-ltb, ne-eqb}
 use Rattle.meaning.specs.Limits.{none}
-use Rattle.meaning.specs.Site.{Site, triple}
-use Rattle.meaning.specs.Move.{Axis, self, ahead, inverse, next, edge, node, Direction, start, Label, any, Allows, Stays, Move, staying, going, coming}
+use Rattle.meaning.specs.Site.{Site}
+use Rattle.meaning.specs.Move.{Axis, self, ahead, inverse, next, edge, node, Direction, Label, any, Allows, Stays, Move, staying, going, coming}
 use Rattle.meaning.specs.Expression.{Rec, plain, testing, joining, choosing, starring}
 use Rattle.records.specs.declared.Label as code
 use Rattle.records.specs.declared.Label.the-variants.{Any, Term, Test}
@@ -21,7 +21,7 @@ use Rattle.fewest.specs.Frame.{Frame}
 use Rattle.fewest.specs.Offer.{view}
 use Rattle.fewest.specs.Work.{allowing}
 use Rattle.path.specs.Pick.{Carries, by-step, by-test as by-proof}
-use Rattle.path.specs.Offers.{Stay, AtSubject}
+use Rattle.path.specs.Offers.{Stay}
 
 -- what a record of this kind carries; only a step carries anything
 abbrev By : Site → List ℕ → (r k t u : ℕ) → Rec → Type 0
@@ -78,18 +78,6 @@ goes a n =
 
     back : (d : Direction) → inverse d ≢ self
     back d e = let z : _≡_ {A = ℕ} 0 1 = cc in omega arith
-
--- next, number 1, and edge, number 3, begin at the subject
-starts-ahead : (d : Direction) {s : Site} {k t m u : ℕ} → Move s (ahead d) any k t m u → t ≡ start d (triple s k)
-starts-ahead d (going x _) = x .starts
-
-pub next-subject : (a : ℕ) → a ≡ 1 → AtSubject (axisNumbered a)
-unfolding axisNumbered
-next-subject a e = rw e (λ s k t m u. starts-ahead next)
-
-pub edge-subject : (a : ℕ) → a ≡ 3 → AtSubject (axisNumbered a)
-unfolding axisNumbered
-edge-subject a e = rw e (λ s k t m u. starts-ahead edge)
 
 module _ {F : Frame} {T : List ℕ} {rs : List Rec} {r k t u : ℕ} where
   -- Along an axis that takes triples: a move whose middle the label lets pass.

@@ -18,18 +18,16 @@ use Rattle.meaning.specs.Fewest.{Goal}
 use Rattle.records.specs.declared.Label.{Label}
 use Rattle.records.specs.Sites.{siteOf}
 use Rattle.records.specs.Rules.{axisNumbered, labelled}
-use Rattle.records.specs.Find.{FirstFrom, subjectAt}
 use Rattle.records.proofs.Sites.{length-siteOf}
-use Rattle.records.proofs.Halving.{Rising, none-before, none-after}
 use Rattle.fewest.specs.declared.look.Moved.{Moved}
 use Rattle.fewest.specs.Frame.{Frame, frame}
 use Rattle.fewest.specs.Work.{Least, allowing}
-use Rattle.fewest.specs.Threads.{FirstWith, OffSubject, startAlong, startBy}
+use Rattle.fewest.specs.Threads.{FirstWith, startAlong, startBy}
 use Rattle.fewest.proofs.Axes as axes
 use Rattle.path.specs.declared.Taken.{Taken}
 use Rattle.path.specs.declared.Pick.the-variants.{Step, Nothing}
 use Rattle.path.specs.Tells.{Tells, holds, fails}
-use Rattle.path.specs.Offers.{Suits, Stay, AtSubject, Smallest, found, none, Serves, SmallestBy}
+use Rattle.path.specs.Offers.{Suits, Stay, Smallest, found, none, Serves, SmallestBy}
 use Rattle.path.proofs.Telling.{told, told-not}
 use Rattle.path.proofs.Carrying.{carries-move, move-carries, carries-stay, stay-carries, below, goes as by-triples}
 
@@ -117,21 +115,6 @@ module _ {s : Site} {up role : List ℕ} {g : Goal} {T : List ℕ} {a : Axis} (g
       smallest-none (Serves (frame s up role g) T rs t d) r
       (λ j v y. let (_, move, _) = carries-move goes l e (y .0) in let b = below goes move in idle j (omega arith) rs e v y)
 
-  -- Where the axis begins at the subject, only the triples with subject t can offer a step, and they stand together.
-  module _ (begins : AtSubject a) where
-    other-idle : {k : ℕ} → t ≢ subjectAt s k → Idle (frame s up role g) T a l r t d k
-    other-idle n rs e u x = let (_, move, _) = carries-move goes l e (x .0) in n (begins s _ _ _ _ move)
-
-    module _ {n first : ℕ} (first-from : FirstFrom (subjectAt s) n t first) where
-      pub subject-idle : (j : ℕ) → j < first → Idle (frame s up role g) T a l r t d j
-      subject-idle j h = other-idle (none-before first-from h)
-
-      pub subject-none : {k : ℕ} → Rising (subjectAt s) n → length s ≤ n → first ≤ k → subjectAt s k ≢ t →
-          ((j : ℕ) → j < k → Idle (frame s up role g) T a l r t d j) → SmallestBy (frame s up role g) T a l t d r Nothing
-      subject-none {k} rises all h other idle =
-          triple-none all λ j below.
-          elim (decLt j k) [ yes i ↦ idle j i | no i ↦ other-idle (none-after first-from rises h other (omega arith) below) ]
-
 -- Each move along an axis starts where its triple does.
 starts-along : {s : Site} {k t m u : ℕ} (a : Axis) → a ≢ self → Move s a any k t m u → t ≡ startAlong a (triple s k)
 starts-along self e x = absurd (e refl)
@@ -139,15 +122,15 @@ starts-along (ahead d) e (going x _) = x .starts
 starts-along (inverse d) e (coming x _) = x .ends
 
 -- Where the triples are threaded by their start, what stands between one of a thread and the next offers nothing.
-module _ (b : List ℕ) {n axis : ℕ} {up role : List ℕ} {g : Goal} {T : List ℕ} (off : OffSubject axis) (l : Label) (r t d : ℕ) where
+module _ (b : List ℕ) {n axis : ℕ} {up role : List ℕ} {g : Goal} {T : List ℕ} (moving : axis ≢ 0) (l : Label) (r t d : ℕ) where
   pub thread-idle : {k j : ℕ} → FirstWith (startBy axis (siteOf b n)) n t k j →
       ((i : ℕ) → i < k → Idle (frame (siteOf b n) up role g) T (axisNumbered axis) l r t d i) →
       (i : ℕ) → i < j → Idle (frame (siteOf b n) up role g) T (axisNumbered axis) l r t d i
   thread-idle {k} {j} first idle i h rs e u x = elim (decLt i k) [
     | yes early ↦ idle i early rs e u x
     | no late ↦
-        let (_, move, _) = carries-move (by-triples axis (off .moving)) l e (x .0) in
-        let inside : i < n = rw (length-siteOf b n) at (below (by-triples axis (off .moving)) move) in
-        let least = first .least i (omega arith) inside (sym (starts-along (axisNumbered axis) (by-triples axis (off .moving)) move)) in
+        let (_, move, _) = carries-move (by-triples axis moving) l e (x .0) in
+        let inside : i < n = rw (length-siteOf b n) at (below (by-triples axis moving) move) in
+        let least = first .least i (omega arith) inside (sym (starts-along (axisNumbered axis) (by-triples axis moving) move)) in
         omega arith
   ]

@@ -4,8 +4,8 @@ use mathlib.Core.Path.{_≡_}
 use mathlib.Core.Bool.{Bool, true}
 use mathlib.Core.List.{List}
 use lib.ListN.{getD}
-use Rattle.meaning.specs.Site.{Site, triple, Voc}
-use Rattle.meaning.specs.Move.{Axis, Move, any}
+use Rattle.meaning.specs.Site.{Site, Voc}
+use Rattle.meaning.specs.Move.{Axis}
 use Rattle.meaning.specs.Expression.{Rec, starring}
 use Rattle.meaning.specs.Fewest.{Goal}
 use Rattle.records.specs.declared.Label.{Label}
@@ -44,10 +44,6 @@ Stay s Test t = Voc s t
 
 abbrev pub MayStay : Bool → Label → Bool → Type 0
 MayStay word l b = (s : Site) (t : ℕ) → Tells (Voc s t) word → Tells (Stay s l t) b
-
--- each move along the axis begins at its triple's subject
-abbrev pub AtSubject : Axis → Type 0
-AtSubject a = (s : Site) (k t m u : ℕ) → Move s a any k t m u → t ≡ triple s k .subject
 
 -- of the steps that are offered, each by its record, its triple and the term reached, the one picked is offered and none is
 -- earlier; nothing is picked only where none is offered

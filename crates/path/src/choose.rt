@@ -14,7 +14,6 @@ use records::NONE;
 use records::RECORDS;
 use records::Record;
 use records::Step;
-use records::find::from_subject;
 use records::rule::record_of;
 ghost use Prim.Native.Nat.{_<_, _≤_};
 ghost use mathlib.Core.Logic.{_≢_};
@@ -27,9 +26,9 @@ ghost use Rattle.fewest.specs.Pairs.{pairs};
 ghost use Rattle.fewest.specs.Frame.{Climbs, frame};
 ghost use Rattle.fewest.specs.Table.{Full};
 ghost use Rattle.fewest.specs.Work.{goalOf, Tests, Ready};
-ghost use Rattle.fewest.specs.Threads.{Threads, OffSubject};
+ghost use Rattle.fewest.specs.Threads.{Threads};
 ghost use Rattle.path.specs.Tells.{Tells};
-ghost use Rattle.path.specs.Offers.{Suited, MayStay, AtSubject, SmallestBy, SmallestOf, SmallestOpen};
+ghost use Rattle.path.specs.Offers.{Suited, MayStay, SmallestBy, SmallestOf, SmallestOpen};
 
 // The move begins at t, the label of record r lets its middle pass, and d steps are left where it ends.
 fn suits<'a>(
@@ -113,7 +112,7 @@ fn by_thread<'a>(
     t: usize,
     d: usize,
 ) -> Pick
-    requires { ⌜ Accepted (now site) triples × Threads (now site) triples (now scratch) × Full (now numbers) × Climbs records (now up) (now role) × (r < records) × Tests label r × OffSubject axis × (t < terms) ⌝ }
+    requires { ⌜ Accepted (now site) triples × Threads (now site) triples (now scratch) × Full (now numbers) × Climbs records (now up) (now role) × (r < records) × Tests label r × (axis ≢ 0) × (axis ≤ lastAxis) × (t < terms) ⌝ }
     ensures { λ p. ⌜ SmallestBy (frame (siteOf (now (site .entry)) triples) (now (up .entry)) (now (role .entry)) (goalOf goal)) (pairs (now (numbers .entry))) (axisNumbered axis) label t d r p ⌝ }
 {
     let parts = parts_of(axis);
@@ -125,39 +124,6 @@ fn by_thread<'a>(
             return Pick::Step(Taken { by: r, over: k, to });
         }
         k = next_from(site, triples, scratch, axis, t, k);
-    }
-    Pick::Nothing
-}
-
-// The first triple with subject t by which record r can be taken: they stand together, from the first whose subject is not less.
-fn by_subject<'a>(
-    site: &[u8],
-    triples: usize,
-    up: &'a [u8; RECORDS],
-    role: &'a [u8; RECORDS],
-    goal: Goal,
-    numbers: &[u8],
-    axis: usize,
-    label: Label,
-    r: usize,
-    t: usize,
-    d: usize,
-) -> Pick
-    requires { ⌜ Accepted (now site) triples × Full (now numbers) × Climbs records (now up) (now role) × (r < records) × Tests label r × (axis ≢ 0) × (axis ≤ lastAxis) × AtSubject (axisNumbered axis) ⌝ }
-    ensures { λ p. ⌜ SmallestBy (frame (siteOf (now (site .entry)) triples) (now (up .entry)) (now (role .entry)) (goalOf goal)) (pairs (now (numbers .entry))) (axisNumbered axis) label t d r p ⌝ }
-{
-    let parts = parts_of(axis);
-    let mut k = from_subject(site, triples, t);
-    while k < triples {
-        let m = move_at(site, k, parts);
-        if m.from != t {
-            return Pick::Nothing;
-        }
-        let to = m.to;
-        if suits(up, role, goal, numbers, label, r, m, t, d) {
-            return Pick::Step(Taken { by: r, over: k, to });
-        }
-        k += 1;
     }
     Pick::Nothing
 }
@@ -184,12 +150,6 @@ fn by_step<'a>(
     let label = step.label;
     if axis == 0 {
         return by_self(up, role, goal, numbers, label, word, r, t, d);
-    }
-    if axis == 1 {
-        return by_subject(site, triples, up, role, goal, numbers, axis, label, r, t, d);
-    }
-    if axis == 3 {
-        return by_subject(site, triples, up, role, goal, numbers, axis, label, r, t, d);
     }
     by_thread(
         site,

@@ -60,7 +60,7 @@ pub fn next_step<'a>(
     requires { ⌜ Ready (now site) triples (now rule) (now starts) count (now up) (now role) (now first) × Threads (now site) triples (now scratch) × Full (now numbers) × (t < terms) × Placed stand ⌝ }
     ensures { λ r. ⌜ Picked (frame (siteOf (now (site .entry)) triples) (now (up .entry)) (now (role .entry)) (goalOf goal)) (pairs (now (numbers .entry))) (recordsOf (now (rule .entry))) (now (first .entry)) stand t d r ⌝ }
 {
-    let here = word(site, scratch, triples, t);
+    let here = word(scratch, triples, t);
     let mut shut = [1; RECORDS];
     enter(rule, starts, count, up, role, first, here, stand, &mut shut);
     choose(

@@ -14,12 +14,17 @@ enter-requires : tie.Need-enter-requires
 enter-requires c κs = search needs
 
 choose-requires : tie.Need-choose-requires
-choose-requires c κs = search needs
+choose-requires c κs =
+    let after-word = c .before .before .before in
+    let pre = after-word .before .before .before .before .before .pre in
+    (pre .0, pre .1, pre .2, pre .3, after-word .word .ensures _ (pre .1) (pre .3))
 
 returns : tie.Need-returns
 unfolding records
 returns c =
-    open-picked (c .before .before .enter .ensures _ _ _ (c .before .before .before .before .word .ensures) all-shut)
+    let after-word = c .before .before .before .before in
+    let pre = after-word .before .before .before .before .before .pre in
+    open-picked (c .before .before .enter .ensures _ _ _ (after-word .word .ensures _ (pre .1) (pre .3)) all-shut)
     (c .choose .ensures)
 
 pub next-step-spec : {M : Type 1} → statement M

@@ -35,7 +35,7 @@ first-from-requires c κs = search needs
 loop-holds : tie.Need-loop-holds Inv-loop μ-loop
 loop-holds c =
     let start = c .before .before .before .before .before in
-    let first = c .first-from .ensures _ _ (start .pre .1) (start .pre .6) (start .pre .7) in
+    let first = c .first-from .ensures _ _ (start .pre .1) (start .pre .6) (start .pre .7) (start .pre .8) in
     (λ h. first .own h .1, thread-idle _ (start .pre .6) (start .args .label) _ _ _ first (below-none _))
 
 move-at-requires : tie.Need-move-at-requires Inv-loop μ-loop
@@ -57,12 +57,12 @@ taken : (c : tie.After-suits Inv-loop μ-loop) → let start = c .before .before
 taken c =
     let after-parts-of = c .before .before .before .before .before in
     let pre = after-parts-of .before .before .before .before .pre in
-    moved-taken (c .before .move-at .ensures) (pre .0) (c .before .before .loop-test .taken) _ (after-parts-of .parts-of .ensures) (pre .6 .moving) (pre .6 .known)
+    moved-taken (c .before .move-at .ensures) (pre .0) (c .before .before .loop-test .taken) _ (after-parts-of .parts-of .ensures) (pre .6) (pre .7)
 
 returns : tie.Need-returns Inv-loop μ-loop
 returns c =
-    let off = c .before .before .before .before .before .before .before .before .before .before .pre .6 in
-    triple-found (goes _ (off .moving)) _ _ _ _ (taken (c .before)) (c .before .suits .ensures _) (c .if1 .taken)
+    let moving = c .before .before .before .before .before .before .before .before .before .before .pre .6 in
+    triple-found (goes _ moving) _ _ _ _ (taken (c .before)) (c .before .suits .ensures _) (c .if1 .taken)
     (c .before .before .before .before .loop .inv .1)
 
 next-from-requires : tie.Need-next-from-requires Inv-loop μ-loop
@@ -75,17 +75,17 @@ loop-again : tie.Need-loop-again Inv-loop μ-loop
 loop-again c =
     let start = c .before .before .before .before .before .before .before .before .before .before .before in
     let (own, idle) = c .before .before .before .before .before .loop .inv in
-    let off = start .pre .6 in
-    let next = c .next-from .ensures .next (start .pre .1) off (own (c .before .before .before .before .loop-test .taken)) in
+    let moving = start .pre .6 in
+    let next = c .next-from .ensures .next (start .pre .1) moving (start .pre .7) (own (c .before .before .before .before .loop-test .taken)) in
     let more =
     below-more _ _ idle
-    (triple-idle (goes _ (off .moving)) _ _ _ _ (taken (c .before .before)) (c .before .before .suits .ensures _) (c .before .if1 .left)) in
-    (λ h. next .own h .1, thread-idle _ off (start .args .label) _ _ _ next (λ i h. more i (omega arith)))
+    (triple-idle (goes _ moving) _ _ _ _ (taken (c .before .before)) (c .before .before .suits .ensures _) (c .before .if1 .left)) in
+    (λ h. next .own h .1, thread-idle _ moving (start .args .label) _ _ _ next (λ i h. more i (omega arith)))
 
 returns-2 : tie.Need-returns-2 Inv-loop μ-loop
 returns-2 c =
     let start = c .before .before .before .before .before .before .before in
-    triple-none (goes _ (start .pre .6 .moving)) (start .args .label) _ _ _ (rw (length-siteOf (start .args .site .now) (start .args .triples)) (c .loop-test .left)) (c .before .loop .inv .1)
+    triple-none (goes _ (start .pre .6)) (start .args .label) _ _ _ (rw (length-siteOf (start .args .site .now) (start .args .triples)) (c .loop-test .left)) (c .before .loop .inv .1)
 
 pub by-thread-spec : {M : Type 1} → statement M
 by-thread-spec =

@@ -1,6 +1,7 @@
 -- `path::word::is_object` meets its contract: the first triple of the object's thread tells.
+use native.Mathlib.Omega.{arith}
 use borrow.Author.Needs.{needs}
-use Rattle.path.proofs.Words.{object-off, object-tells}
+use Rattle.path.proofs.Words.{object-tells}
 use Rattle.path.proofs.word.is_object.Statement.{statement}
 use Rattle.path.proofs.word.is_object.Tie as tie
 
@@ -8,7 +9,7 @@ first-from-requires : tie.Need-first-from-requires
 first-from-requires c κs = search needs
 
 returns : tie.Need-returns
-returns c = λ s threads h. object-tells s (c .first-from .ensures s _ threads object-off h)
+returns c = λ s threads h. object-tells s (c .first-from .ensures s _ threads (λ e. omega arith) (omega arith) h)
 
 pub is-object-spec : {M : Type 1} → statement M
 is-object-spec = tie.close (tie.spec first-from-requires returns)

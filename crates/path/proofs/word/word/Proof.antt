@@ -8,15 +8,14 @@ is-subject-requires : tie.Need-is-subject-requires
 is-subject-requires c κs = search needs
 
 returns : tie.Need-returns
-returns c = word-subject (c .before .is-subject .ensures) (c .if1 .taken)
+returns c = λ s threads h. word-subject (c .before .is-subject .ensures s threads h) (c .if1 .taken)
 
 is-object-requires : tie.Need-is-object-requires
 is-object-requires c κs = search needs
 
 returns-2 : tie.Need-returns-2
-returns-2 c =
-    let pre = c .before .before .before .before .before .pre in
-    word-object (c .before .before .is-subject .ensures) (c .before .if1 .left) (c .is-object .ensures _ (pre .1) (pre .2))
+returns-2 c = λ s threads h.
+    word-object (c .before .before .is-subject .ensures s threads h) (c .before .if1 .left) (c .is-object .ensures s threads h)
 
 pub word-spec : {M : Type 1} → statement M
 word-spec = tie.close (tie.spec is-subject-requires returns is-object-requires returns-2)
