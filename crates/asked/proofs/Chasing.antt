@@ -107,7 +107,7 @@ module _ {site : List ℕ} {n : ℕ} {rule up role first T : List ℕ} where
     record {
       reached = λ g. record-reached below is (rw (taken .same) at (asked g .0));
       answered = λ g. one-answered small (omega (arith, length-lows b, length-serveds b, place-below row small))
-          (kept .served ∙ taken .served .waited (taken .waited refl)) (marks-on-grows (record-reached below is (rw (taken .same) at (asked g .0)))) (λ w i. asked g .1 w (rw is i));
+          (kept .served ∙ taken .served .waited (taken .waited refl)) (marks-on-grows {rs = recordsOf rule} {first = first} (record-reached below is (rw (taken .same) at (asked g .0)))) (λ w i. asked g .1 w (rw is i));
       below = λ i h. kept .below i h ∙ taken .below i h;
     },
     record { waited = λ w. kept .served ∙ taken .served .waited w; left = λ w. kept .served ∙ taken .served .left w },

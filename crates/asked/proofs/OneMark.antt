@@ -17,7 +17,7 @@ use Rattle.fewest.proofs.Lows.{getD-lows}
 use Rattle.fewest.proofs.Places.{place-below, view-set-same}
 use Rattle.asked.specs.Mark.{marks, Marked, Done, Asking, Marking, stay, mark, arrive}
 use Rattle.asked.specs.Seek.{Whole, Bits, OneMarked, MarkedIf, OneArrived}
-use Rattle.asked.proofs.Marking.{bits-mark, mark-stays, Grows}
+use Rattle.asked.proofs.Marking.{bits-mark, mark-stays}
 use Rattle.asked.proofs.LowBits.{lows-set}
 
 -- The byte that was read at its place was marked, or it is marked now: a mark is the lowest bit.
@@ -67,13 +67,10 @@ module _ {r t : ℕ} {b b′ : List ℕ} (bits : Bits b) (one : OneMarked r t b 
   pub one-bits : Bits b′
   one-bits = ⊎-elim (λ (_, same). rw same (bits-mark b (place r t) bits)) (λ (_, same). rw same bits) either
 
-  pub one-grows : (ends : List ℕ) → Grows (marks b ends) (marks b′ ends)
+  -- What is marked stays marked.
+  pub one-keeps : (q u : ℕ) → view b q u ≡ 1 → view b′ q u ≡ 1
   unfolding view
-  one-grows ends = record {
-    marked = λ q u m. ⊎-elim (λ (_, same). rw same (mark-stays b (place r t) (place q u) m)) (λ (_, same). rw same m) either;
-    arrived = λ u e. e;
-    long = refl;
-  }
+  one-keeps q u m = ⊎-elim (λ (_, same). rw same (mark-stays b (place r t) (place q u) m)) (λ (_, same). rw same m) either
 
   -- What is asked for is marked.
   pub one-asked : {F : Frame} {T : List ℕ} {w : Work} {q : ℕ} {ends : List ℕ} → Whole b → r < records → t < terms →

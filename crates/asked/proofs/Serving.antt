@@ -16,7 +16,7 @@ use Rattle.records.specs.Sites.{Accepted}
 use Rattle.fewest.specs.Cells.{lowest, cells, lowests, CellPut}
 use Rattle.fewest.specs.Lows.{low, lows}
 use Rattle.fewest.specs.Offer.{place}
-use Rattle.fewest.specs.Threads.{predicate-first, object-first, predicate-next, object-next, free, Threads}
+use Rattle.fewest.specs.Threads.{subject-first, predicate-first, object-first, predicate-next, object-next, free, Threads}
 use Rattle.fewest.proofs.Decoded.{cells-same}
 use Rattle.fewest.proofs.Lows.{getD-lows, map-set-keep, lows-set-keep}
 use Rattle.fewest.proofs.Places.{stored, one-place}
@@ -153,6 +153,7 @@ pub threads-kept : {site b d : List ℕ} {n : ℕ} → Accepted site n → Below
 threads-kept good below threads =
     let few = good .few in
     record {
+      subjects = λ t h. rw (below (subject-first + t) (omega arith)) (threads .subjects t h);
       predicates = record {
         first = λ t h. rw (below (predicate-first + t) (omega arith)) (threads .predicates .first t h);
         next = λ i l h. rw (below (predicate-next + i) (omega arith)) (threads .predicates .next i l h);

@@ -233,18 +233,7 @@ fn ask_step<'a>(
         }
         return tail;
     }
-    stay(
-        words,
-        up,
-        role,
-        numbers,
-        asked,
-        ends,
-        label,
-        r,
-        t,
-        tail,
-    )
+    stay(words, up, role, numbers, asked, ends, label, r, t, tail)
 }
 
 // What the question of record r at t asks for, by its record; `first` is the record of a join's first operand.

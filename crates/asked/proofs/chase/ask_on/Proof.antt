@@ -3,7 +3,7 @@ use native.Mathlib.Omega.{arith}
 use borrow.Author.Needs.{needs}
 use Rattle.asked.specs.Chase.{as-empty}
 use Rattle.asked.proofs.LowBits.{lows-bits}
-use Rattle.asked.proofs.OneMark.{one-whole, one-grows}
+use Rattle.asked.proofs.OneMark.{one-whole, one-keeps}
 use Rattle.asked.proofs.Serving.{kept-then}
 use Rattle.asked.proofs.ByMoves.{copy-asked}
 use Rattle.asked.proofs.Chasing.{asked-step, asked-sequence, asked-choice, asked-star}
@@ -50,7 +50,7 @@ stay-requires : tie.Need-stay-requires
 stay-requires c κs =
     let p = c .before .before .before .before .before .before .before .before .before .before .before .before .pre in
     let one = c .before .before .before .before .mark4 .ensures .0 in
-    (p .1, p .2, one-whole (lows-bits _) one (p .3), p .4, p .5, p .6, tt, one-grows (lows-bits _) one _ .marked _ _ (p .11))
+    (p .1, p .2, one-whole (lows-bits _) one (p .3), p .4, p .5, p .6, tt, one-keeps (lows-bits _) one _ _ (p .11))
 
 same-length : tie.Need-same-length
 same-length c = search needs
@@ -79,7 +79,7 @@ returns-3 c =
     let (one, kept) = c .before .before .before .before .before .before .mark2 .ensures in
     let (other, more) = c .before .before .mark3 .ensures in (
       λ g. asked-choice _ (c .before .before .before .before .before .before .before .before .enum-told2 .given .1) (copy-asked (p .3) (lows-bits _) (p .8) (p .6) (p .11) one)
-          (copy-asked (one-whole (lows-bits _) one (p .3)) (lows-bits _) (omega (arith, p .5)) (p .6) (one-grows (lows-bits _) one _ .marked _ _ (p .11)) other),
+          (copy-asked (one-whole (lows-bits _) one (p .3)) (lows-bits _) (omega (arith, p .5)) (p .6) (one-keeps (lows-bits _) one _ _ (p .11)) other),
       kept-then kept more,
     )
 

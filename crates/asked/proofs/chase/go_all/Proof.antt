@@ -13,7 +13,7 @@ use Rattle.fewest.specs.Lows.{lows}
 use Rattle.fewest.specs.Pairs.{pairs}
 use Rattle.fewest.specs.Threads.{startBy}
 use Rattle.fewest.proofs.ByTriples.{axis-takes}
-use Rattle.asked.specs.Mark.{marks}
+use Rattle.asked.specs.Mark.{marks, Marked}
 use Rattle.asked.specs.Serve.{Kept}
 use Rattle.asked.proofs.Marking.{marking-long, marking-grows}
 use Rattle.asked.proofs.LowBits.{same-long}
@@ -66,7 +66,8 @@ loop-again c =
     let (i, u, v) = goes-along {s = siteOf (x .args .site .now) (x .args .triples)} {k = at .k} (axis-takes (x .args .step .axis) (p .8)) (rw (length-siteOf (x .args .site .now)) (c .before .before .before .before .before .before .before .before .before .loop-test .taken)) here in
     let (went, more) = c .before .before .before .before .before .before .go .ensures in
     let next = c .next-from .ensures .next (threads-kept (p .0) (kept-then kept more .below) (p .10)) (p .8) (p .9) here in
-    let marked = λ (g : Goal). marking-grows (gone g .made) .marked (x .args .r) (x .args .t) (p .11) in (
+    let marked : (g : Goal) → Marked (marks (lows (at .asked)) (at .ends)) (x .args .r) (x .args .t) =
+    λ g. marking-grows (gone g .made) .marked (x .args .r) (x .args .t) (p .11) in (
       λ g. gone-more (x .args .site .now) (p .8) (gone g) (went g _ i u (p .6) (marked g) v .0) (λ i u v. went g _ i u (p .6) (marked g) v .1) next,
       kept-then kept more,
       λ h. next .own h .1,
