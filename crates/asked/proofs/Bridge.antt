@@ -30,10 +30,10 @@ use Rattle.fewest.proofs.Bridge.{node-record}
 use Rattle.fewest.proofs.Places.{place-below, view-set-same}
 use Rattle.fewest.proofs.Roles.{along, operand-before}
 use Rattle.fewest.proofs.Works.{works, record-works}
-use Rattle.asked.specs.Mark.{Marks, begun, Marked, Done, by-step, by-test, by-rest, follows, tests, enters, Calm, Marks-on, Marked-out, Marked-from}
+use Rattle.asked.specs.Mark.{Marks, begun, Marked, Leads, by-step, by-test, by-rest, follows, tests, enters, Calm, Marks-on, Marked-out, Marked-from}
 use Rattle.asked.proofs.Following.{all-follows}
 use Rattle.asked.proofs.Fair.{Fair, begun-fair, marks-on-fair}
-use Rattle.asked.proofs.Marking.{marks-on-keeps}
+use Rattle.asked.proofs.Marking.{marks-on-grows}
 use Rattle.asked.proofs.Sums.{sum-total, sum-rows}
 
 -- inside a list it does not matter what stands outside
@@ -48,35 +48,37 @@ module _ {rs : List Rec} {rule : Expr} {L : Links} (x : Expression rs rule) (lin
   calm : (e : Expr) (K : Context) → plug e K ≡ rule → {w : Work} → List·Memᴰ w (works e) → Calm (along L s g) T w (last e) M
   calm e K p {w} i = out .calm (last e) w (node-record x e K p) (rw (record-works x linked e K p) i)
 
-  -- where the work says that it is done, what follows is marked; an end outside the table counts as marked
-  done-follows : (e : Expr) (K : Context) → plug e K ≡ rule → {w : Work} → List·Memᴰ w (works e) → {u : ℕ} → u < terms →
-      Done (along L s g) T M (last e) u w → Follows (view (M .asked)) (λ v. getD (M .ends) v 1) e K u
-  done-follows e K p i {u} b d = all-follows (x .numbered) linked e K p (record {
-    next = λ q n. calm e K p i .asks q u b (follows d n);
-    home = λ h. elim (decLt u (length (M .ends))) [
-      | yes l ↦ inside (M .ends) u 1 0 l ∙ calm e K p i .arrives u l d h
-      | no l ↦ List·getD-eq-default (M .ends) 1 (omega arith)
-    ];
-  })
+  -- where the work of a marked question leads, what follows is marked; an end outside the table counts as marked
+  done-follows : (e : Expr) (K : Context) → plug e K ≡ rule → {w : Work} → List·Memᴰ w (works e) → {t u : ℕ} → u < terms → t < terms →
+      Marked M (last e) t → Leads (along L s g) T (last e) t u w → Follows (view (M .asked)) (λ v. getD (M .ends) v 1) e K u
+  done-follows e K p i {t} {u} b c m d =
+      let at = calm e K p i t c m in
+      all-follows (x .numbered) linked e K p (record {
+        next = λ q n. at .asks q u b (follows d n);
+        home = λ h. elim (decLt u (length (M .ends))) [
+          | yes l ↦ inside (M .ends) u 1 0 l ∙ at .arrives u l d h
+          | no l ↦ List·getD-eq-default (M .ends) 1 (omega arith)
+        ];
+      })
 
   -- Where nothing asked for is unmarked, what a mark asks is marked.
   pub marked-out-followed : {z : ℕ} → Marked M (last rule) z → Followed s z rule (view (M .asked)) (λ u. getD (M .ends) u 1)
   unfolding Numbers
   marked-out-followed begins = record {
     begun = begins;
-    by-step = λ r a l K p k t i u b h v. done-follows (step r a l) K p (List·Memᴰ·head refl) (among ok b (move-reaches v)) (by-step h b v);
+    by-step = λ r a l K p k t i u b h v. done-follows (step r a l) K p (List·Memᴰ·head refl) (among ok b (move-reaches v)) b h (by-step v);
     test-in = λ r a y K p k t i u b h v.
-        calm (tested r a y) K p (List·Memᴰ·head refl) .asks (last y) i (among ok b (move-passes v))
-        (tests (sym (operand-before (x .numbered) (tested r a y) K p)) h b v);
+        calm (tested r a y) K p (List·Memᴰ·head refl) t b h .asks (last y) i (among ok b (move-passes v))
+        (tests (sym (operand-before (x .numbered) (tested r a y) K p)) v);
     by-test = λ r a y K p k t i u b h v w.
         let number = fewest-holds s g r a y K i (numbers y (test r a K) p i (among ok b (move-passes v))) .1 w in
-        done-follows (tested r a y) K p (List·Memᴰ·head refl) (among ok b (move-reaches v))
-        (by-test h b v (rw (operand-before (x .numbered) (tested r a y) K p) number));
-    sequence-in = λ r a b K p t c h. calm (sequence r a b) K p (List·Memᴰ·head refl) .asks (last a) t c (enters refl h c);
-    one-in = λ r a b K p t c h. calm (choice r a b) K p (List·Memᴰ·head refl) .asks (last a) t c (enters refl h c);
-    other-in = λ r a b K p t c h. calm (choice r a b) K p (List·Memᴰ·tail (List·Memᴰ·head refl)) .asks (last b) t c (enters refl h c);
-    round-in = λ r a K p t c h. calm (star r a) K p (List·Memᴰ·head refl) .asks (last a) t c (enters refl h c);
-    round-empty = λ r a K p t c h v. done-follows (star r a) K p (List·Memᴰ·tail (List·Memᴰ·head refl)) c (by-rest h c v);
+        done-follows (tested r a y) K p (List·Memᴰ·head refl) (among ok b (move-reaches v)) b h
+        (by-test v (rw (operand-before (x .numbered) (tested r a y) K p) number));
+    sequence-in = λ r a b K p t c h. calm (sequence r a b) K p (List·Memᴰ·head refl) t c h .asks (last a) t c (enters refl refl);
+    one-in = λ r a b K p t c h. calm (choice r a b) K p (List·Memᴰ·head refl) t c h .asks (last a) t c (enters refl refl);
+    other-in = λ r a b K p t c h. calm (choice r a b) K p (List·Memᴰ·tail (List·Memᴰ·head refl)) t c h .asks (last b) t c (enters refl refl);
+    round-in = λ r a K p t c h. calm (star r a) K p (List·Memᴰ·head refl) t c h .asks (last a) t c (enters refl refl);
+    round-empty = λ r a K p t c h v. done-follows (star r a) K p (List·Memᴰ·tail (List·Memᴰ·head refl)) c c h (by-rest refl v);
   }
 
 -- The whole rule's record is the last one.
@@ -100,7 +102,7 @@ module _ {rs : List Rec} {rule : Expr} {L : Links} {s : Site} {g : Goal} {T : Li
   fair = marks-on-fair x few linked ok numbers reached (begun-fair x few n start)
 
   followed : Followed s z rule (view (M .asked)) (λ u. getD (M .ends) u 1)
-  followed = marked-out-followed x linked ok numbers (marked .out) (marks-on-keeps reached (last rule) z (begins x few z n start))
+  followed = marked-out-followed x linked ok numbers (marked .out) (marks-on-grows reached .marked (last rule) z (begins x few z n start))
 
   -- The byte table holds 1 for each question asked and 0 elsewhere, unused rows included.
   pub marked-questions : (r t : ℕ) → t < terms → Tells (Asks s rule z (question r t)) (view (M .asked) r t)

@@ -26,7 +26,8 @@ use Rattle.fewest.specs.Offer.{place, view, Work, stepping, proving, copying, r
 use Rattle.fewest.proofs.Places.{one-place, place-below, stored}
 use Rattle.fewest.proofs.Roles.{along, operand-before}
 use Rattle.fewest.proofs.Works.{works, record-works}
-use Rattle.asked.specs.Mark.{Marks, marks, begun, Marked, Done, by-step, by-test, by-rest, Asking, follows, tests, enters, Marking, stay, mark, arrive, Marks-on, rest, work}
+use Rattle.asked.specs.Mark.{Marks, marks, begun, Marked, by-step, by-test, by-rest, follows, tests, enters, Done, done, Asking, asking, Marking, stay, mark, arrive, Marks-on, rest, work}
+use Rattle.asked.proofs.Marking.{never-leads}
 use Rattle.asked.proofs.Following.{Comes, comes-free, next-asked, home-related}
 
 -- the byte table has its length, its entries and the ends' are 0 or 1, each mark is a question that is asked, and to each
@@ -122,21 +123,22 @@ module _ {rs : List Rec} {rule : Expr} (x : Expression rs rule) {s : Site} {z : 
     comes-done : (e : Expr) (K : Context) {w : Work} {u : ℕ} → plug e K ≡ rule → Does s e K w → Done (along L s g) T M (last e) u w →
         Comes s z (finished e K u)
     unfolding Numbers
-    comes-done e K p (steps {r}) (by-step h b v) = record { here = step-here s z r K v (comes-marked e K p b h .here) }
-    comes-done e K p (proves {r} {a} {x = y}) (by-test {i = i} h b v l) =
+    comes-done e K p (steps {r}) (done h b (by-step v)) = record { here = step-here s z r K v (comes-marked e K p b h .here) }
+    comes-done e K p (proves {r} {a} {x = y}) (done h b (by-test {i = i} v l)) =
         let number = rw (operand-before (x .numbered) e K p) at l in
         let holds = fewest-holds s g r a y K i (numbers y (test r a K) p i (among ok b (move-passes v))) .0 number in
         record { here = test-here s z r y K v holds (comes-marked e K p b h .here) }
-    comes-done e K p rests (by-rest h b v) = comes-free (round-empty v) (comes-marked e K p b h)
+    comes-done e K p (goes-in f J q enter) (done h b l) = absurd (never-leads l)
+    comes-done e K p rests (done h b (by-rest same v)) = rw same (comes-free (round-empty v) (comes-marked e K p b h))
 
     -- and what its work asks for is asked
     asking-stands : (e : Expr) (K : Context) {w : Work} {b t : ℕ} → plug e K ≡ rule → Does s e K w → Asking (along L s g) T M (last e) b t w →
         Stands s z rule (question b t)
-    asking-stands e K p d (follows o n) = next-asked (x .numbered) linked e K p n (comes-done e K p d o)
-    asking-stands e K p (proves {r} {a} {x = y}) (tests {k = k} {i = i} {u = u} o h b v) =
+    asking-stands e K p d (asking h b (follows o n)) = next-asked (x .numbered) linked e K p n (comes-done e K p d (done h b o))
+    asking-stands e K p (proves {r} {a} {x = y}) (asking {t = i} h b (tests {k = k} {u = u} o v)) =
         (y, test r a K, p, sym (o ∙ operand-before (x .numbered) e K p), (k, i, u, v, comes-marked e K p b h .here))
-    asking-stands e K {t = t} p (goes-in f J q enter) (enters o h b) =
-        (f, J, q ∙ p, sym o, comes-free (enter t) (comes-marked e K p b h) .here)
+    asking-stands e K p (goes-in f J q enter) (asking {t = t} h b (enters o same)) =
+        rw same (f, J, q ∙ p, sym o, comes-free (enter t) (comes-marked e K p b h) .here)
 
 module _ {rs : List Rec} {rule : Expr} (x : Expression rs rule) (few : length rs ≤ records) {s : Site} {z : ℕ} where
   -- The tables to begin with are fair.

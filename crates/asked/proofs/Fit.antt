@@ -2,12 +2,11 @@
 -- So a loop's tables are fit for its next turn by what it has reached.
 use Prim.Native.Nat.{ℕ}
 use mathlib.Core.Path.{_∙_}
-use mathlib.Core.List.{List, []}
+use mathlib.Core.List.{List}
 use Rattle.meaning.specs.Expression.{Rec}
-use Rattle.meaning.specs.Fewest.{anywhere}
-use Rattle.fewest.specs.Frame.{Frame, frame}
+use Rattle.fewest.specs.Frame.{Frame}
 use Rattle.fewest.specs.Offer.{Work}
-use Rattle.asked.specs.Mark.{Marks, marks, Marking, Marks-on, rest, work}
+use Rattle.asked.specs.Mark.{Marks, Marking, Marks-on, rest, work}
 use Rattle.asked.specs.Seek.{Whole, Bits}
 use Rattle.asked.proofs.Marking.{marking-long, marking-bits}
 
@@ -24,9 +23,3 @@ marking-fit p (whole, ends) = (marking-long p .0 ∙ whole, marking-bits p ends)
 pub marks-on-fit : {F : Frame} {T : List ℕ} {rs : List Rec} {first : List ℕ} {M N : Marks} → Marks-on F T rs first M N → Fit M → Fit N
 marks-on-fit rest fit = fit
 marks-on-fit (work q h i l) fit = marking-fit l (marks-on-fit q fit)
-
--- Where the ends are not touched, the byte table is fit by itself.
-pub row-fit : {w : Work} {r : ℕ} {b b′ : List ℕ} → ((F : Frame) (T ends : List ℕ) → Marking F T w r (marks b ends) (marks b′ ends)) →
-    Whole b → Whole b′
-unfolding Whole
-row-fit p whole = marking-long (p (frame [] [] [] anywhere) [] []) .0 ∙ whole

@@ -1,12 +1,12 @@
--- Laws that belong to no one function: marking as sweeps, and the bridge from marks to questions and ends.
+-- Laws that belong to no one function: marking, which questions are served, and the bridge from marks to questions and ends.
 pub mod Marking
 pub mod Clearing
 pub mod LowBits
+pub mod Serving
 pub mod OneMark
 pub mod Fit
-pub mod Rowwise
 pub mod ByMoves
-pub mod ByRecords
+pub mod Going
 pub mod Chasing
 pub mod Following
 pub mod Climb

@@ -1,44 +1,68 @@
--- What the chase promises: it only marks what the marks ask for, as a sweep does.
+-- What the chase promises. A question that is asked on asks for nothing unmarked, and stays so, because marks only grow.
 -- Where it looks and in what order is a hint and promised of nothing.
-use Prim.Native.Nat.{ℕ}
-use mathlib.Core.Path.{_≡_}
-use mathlib.Core.List.{List}
+use Prim.Native.Nat.{ℕ, _<_}
+use mathlib.Core.List.{List, List·Memᴰ}
+use lib.ListN.{length, getD}
+use Rattle.meaning.specs.Limits.{terms}
 use Rattle.meaning.specs.Site as meant
-use Rattle.meaning.specs.Move.{self}
+use Rattle.meaning.specs.Move.{self, Move, any}
+use Rattle.meaning.specs.Expression.{Rec, starring}
 use Rattle.meaning.specs.Fewest.{Goal}
 use Rattle.records.specs.declared.Label.{Label}
-use Rattle.records.specs.declared.Label.the-variants.{Term}
+use Rattle.records.specs.declared.Label.the-variants.{Any}
 use Rattle.records.specs.declared.Step.{Step}
 use Rattle.records.specs.declared.Record.{Record}
 use Rattle.records.specs.Sites.{siteOf}
+use Rattle.records.specs.Words.{WordsOf}
 use Rattle.records.specs.Rules.{axisNumbered, recOf, recordsOf}
-use Rattle.fewest.specs.Frame.{frame}
-use Rattle.fewest.specs.Offer.{Work, worksOf}
-use Rattle.fewest.specs.Work.{workOf, Rows}
-use Rattle.asked.specs.Mark.{Marks, Marking, Marks-on}
-use Rattle.asked.specs.Seek.{Stay}
+use Rattle.fewest.specs.Frame.{Frame, frame}
+use Rattle.fewest.specs.Lows.{lows}
+use Rattle.fewest.specs.Offer.{Work, resting, worksOf}
+use Rattle.fewest.specs.Work.{workOf, Nameless, Rows}
+use Rattle.asked.specs.Mark.{Marks, marks, Marked, Marking, CalmAt, Marks-on}
+use Rattle.asked.specs.Serve.{Served, Below}
+use Rattle.asked.specs.Seek.{CalmBy}
 
--- only what this work of record r asks for was marked
-abbrev pub WorkChased : List ℕ → ℕ → List ℕ → List ℕ → List ℕ → Work → ℕ → Marks → Marks → Type 0
-WorkChased b n up role T w r M M′ = (g : Goal) → Marking (frame (siteOf b n) up role g) T w r M M′
+-- triple k was looked at for a step of record r, from where it starts
+abbrev pub Went : List ℕ → ℕ → ℕ → Step → List ℕ → List ℕ → List ℕ → ℕ → Marks → Marks → Type 0
+Went b n k x up role T r M M′ =
+    (g : Goal) (t i u : ℕ) → t < terms → Marked M r t → Move (siteOf b n) (axisNumbered (x .axis)) any k t i u →
+    let F = frame (siteOf b n) up role g in
+    Marking F T (workOf (axisNumbered (x .axis)) (x .label)) r M M′ × CalmBy F T (x .label) r i u M′
 
--- the same of a step
-abbrev pub StepChased : List ℕ → ℕ → Step → List ℕ → List ℕ → List ℕ → ℕ → Marks → Marks → Type 0
-StepChased b n x up role T r M M′ = WorkChased b n up role T (workOf (axisNumbered (x .axis)) (x .label)) r M M′
+-- the question of record r at t was asked on by this work: only what it asks for was marked, and nothing of it is unmarked
+abbrev pub WorkAsked : Frame → List ℕ → Work → ℕ → ℕ → Marks → Marks → Type 0
+WorkAsked F T w r t M M′ = Marking F T w r M M′ × CalmAt F T w r t M′
 
--- of staying at t, a vocabulary term or the name of a self step
-pub record RestChased (up role T : List ℕ) (l : Label) (r t : ℕ) (M M′ : Marks) : Type 0 where
-  pub at-word : (s : meant.Site) (g : Goal) (w : Work) → Stay l w → meant.Voc s t → Marking (frame s up role g) T w r M M′
-  pub at-name : (s : meant.Site) (g : Goal) (n : ℕ) → l ≡ Term n → Marking (frame s up role g) T (workOf self l) r M M′
+-- by a step
+abbrev pub StepAsked : List ℕ → ℕ → Step → List ℕ → List ℕ → List ℕ → ℕ → ℕ → Marks → Marks → Type 0
+StepAsked b n x up role T r t M M′ =
+    (g : Goal) → WorkAsked (frame (siteOf b n) up role g) T (workOf (axisNumbered (x .axis)) (x .label)) r t M M′
 
--- of staying at a vocabulary term
-abbrev pub StayChased : List ℕ → ℕ → List ℕ → List ℕ → List ℕ → Label → ℕ → Marks → Marks → Type 0
-StayChased b n up role T l r M M′ = (w : Work) → Stay l w → WorkChased b n up role T w r M M′
+-- the work that a stay with this label is: a star's empty round has no label, a self step has its own
+pub data Stay : Label → Work → Type 0 where
+  as-empty : Stay Any resting
+  as-step : {l : Label} → Stay l (workOf self l)
 
--- of the works of a record
-abbrev pub RecordChased : List ℕ → ℕ → Record → ℕ → List ℕ → List ℕ → List ℕ → ℕ → Marks → Marks → Type 0
-RecordChased b n x f up role T r M M′ = (g : Goal) → Rows (λ w. Marking (frame (siteOf b n) up role g) T w r) (worksOf (recOf x) r f) M M′
+-- by staying, where the words are the site's
+abbrev pub StayAsked : List ℕ → List ℕ → List ℕ → List ℕ → Label → ℕ → ℕ → Marks → Marks → Type 0
+StayAsked words up role T l r t M M′ =
+    (s : meant.Site) (g : Goal) (w : Work) → WordsOf s words → Nameless l → Stay l w → WorkAsked (frame s up role g) T w r t M M′
 
--- of the records of a rule
-abbrev pub Chased : List ℕ → ℕ → List ℕ → List ℕ → List ℕ → List ℕ → List ℕ → Marks → Marks → Type 0
-Chased b n rule up role first T M M′ = (g : Goal) → Marks-on (frame (siteOf b n) up role g) T (recordsOf rule) first M M′
+-- by each work of a record
+abbrev pub RecordAsked : List ℕ → ℕ → Record → ℕ → List ℕ → List ℕ → List ℕ → ℕ → ℕ → Marks → Marks → Type 0
+RecordAsked b n x f up role T r t M M′ =
+    (g : Goal) → let F = frame (siteOf b n) up role g in Rows (λ w. Marking F T w r) (worksOf (recOf x) r f) M M′ ×
+    ((w : Work) → List·Memᴰ w (worksOf (recOf x) r f) → CalmAt F T w r t M′)
+
+-- each question that is served asks for nothing unmarked
+pub record Answered (F : Frame) (T : List ℕ) (rs : List Rec) (first b ends : List ℕ) : Type 0 where
+  pub each : (r t : ℕ) → r < length rs → t < terms → Served b r t →
+      (w : Work) → List·Memᴰ w (worksOf (getD rs r starring) r (getD first r 0)) → CalmAt F T w r t (marks (lows b) ends)
+
+-- only what is asked for was marked, each served question is answered if it was, and the threads are as they were
+pub record Chased (site : List ℕ) (n : ℕ) (rule up role first T b ends b′ ends′ : List ℕ) : Type 0 where
+  pub reached : (g : Goal) → Marks-on (frame (siteOf site n) up role g) T (recordsOf rule) first (marks (lows b) ends) (marks (lows b′) ends′)
+  pub answered : (g : Goal) → let F = frame (siteOf site n) up role g in Answered F T (recordsOf rule) first b ends →
+      Answered F T (recordsOf rule) first b′ ends′
+  pub below : Below b b′

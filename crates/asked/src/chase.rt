@@ -1,9 +1,9 @@
-// The questions by a queue of terms: what is asked at a term is asked on at once, record by record. Each mark is justified when it
-// is made; where to look is only a hint, and the sweep that follows certifies that none is missing.
+// The questions by a queue of terms: what is asked at a term is asked on at once, record by record. A question that was asked on
+// asks for nothing unmarked, and stays so, because marks only grow. Which question comes next is only a hint.
+use crate::mark::mark;
 use crate::mark::take_up;
-use crate::seek::enter;
-use crate::seek::rest;
-use crate::seek::seek;
+use crate::seek::pursue;
+use crate::wait::left_over;
 use fewest::cells::cell;
 use fewest::cells::put_cell;
 use fewest::look::Parts;
@@ -12,41 +12,42 @@ use fewest::look::parts_of;
 use fewest::threads::FREE;
 use fewest::threads::first_from;
 use fewest::threads::next_from;
-use fewest::threads::witness;
 use records::Label;
 use records::RECORDS;
 use records::Record;
 use records::Step;
 use records::TERMS;
 use records::rule::record_of;
-use records::site::triple_at;
 ghost use mathlib.Core.Path.{_≡_};
 ghost use mathlib.Core.Logic.{_≢_};
-ghost use Prim.Native.Nat.{_<_, _≤_};
+ghost use Prim.Native.Nat.{_*_, _<_, _≤_};
 ghost use Rattle.meaning.specs.Limits.{terms, records};
-ghost use Rattle.records.specs.Sites.{Accepted};
+ghost use Rattle.records.specs.Sites.{Accepted, siteOf};
+ghost use Rattle.records.specs.Words.{WordsOf};
 ghost use Rattle.records.specs.Rules.{lastAxis};
 ghost use Rattle.fewest.specs.Lows.{lows};
 ghost use Rattle.fewest.specs.Pairs.{pairs};
 ghost use Rattle.fewest.specs.Frame.{Climbs};
 ghost use Rattle.fewest.specs.Table.{Full};
-ghost use Rattle.fewest.specs.Work.{Tests, partsOf, Axial, Has, Sits, Ready};
-ghost use Rattle.asked.specs.Mark.{marks};
-ghost use Rattle.asked.specs.Seek.{Whole, Bits};
-ghost use Rattle.asked.specs.Chase.{StepChased, RestChased, StayChased, RecordChased, Chased};
+ghost use Rattle.fewest.specs.Threads.{Threads};
+ghost use Rattle.fewest.specs.Work.{Tests, partsOf, Sits, Ready};
+ghost use Rattle.asked.specs.Mark.{marks, Marked};
+ghost use Rattle.asked.specs.Serve.{NoneWaits, OneServed, SomeServed, Kept, Aside, most, Picked};
+ghost use Rattle.asked.specs.Seek.{Whole, Bits, Pursued};
+ghost use Rattle.asked.specs.Chase.{Went, StepAsked, StayAsked, RecordAsked, Chased};
 
 // In scratch, behind the threads: the queue, and for each term whether it waits there.
 const QUEUE: usize = FREE;
 
 const WAITING: usize = FREE + TERMS;
 
-// So many terms and one more are queued in all, whatever the hints say; what is left then is found by the sweeps.
-const MOST: usize = RECORDS * TERMS;
+// So many terms and one more are queued in all, whatever the hints say; each mark queues at most two. What is left then still waits.
+const MOST: usize = 4 * RECORDS * TERMS;
 
 // Term t waits at the end of the queue.
 fn push(asked: &mut [u8], tail: usize, t: usize) -> usize
     requires { ⌜ t < terms ⌝ }
-    ensures { λ _. ⌜ lows (now (asked .exit)) ≡ lows (now (asked .entry)) ⌝ }
+    ensures { λ _. ⌜ Aside (now (asked .entry)) (now (asked .exit)) ⌝ }
 {
     if MOST < tail {
         return tail;
@@ -61,7 +62,7 @@ fn push(asked: &mut [u8], tail: usize, t: usize) -> usize
 
 // No term waits.
 fn clear_waiting(asked: &mut [u8])
-    ensures { λ _. ⌜ lows (now (asked .exit)) ≡ lows (now (asked .entry)) ⌝ }
+    ensures { λ _. ⌜ Aside (now (asked .entry)) (now (asked .exit)) ⌝ }
 {
     let mut t = 0;
     while t < TERMS {
@@ -70,24 +71,16 @@ fn clear_waiting(asked: &mut [u8])
     }
 }
 
-// The end of triple k waits, where something may have been marked; and its middle, if the label is a test: nothing else is marked there.
-fn push_by(
-    site: &[u8],
-    k: usize,
-    parts: Parts,
-    label: Label,
-    asked: &mut [u8],
-    tail: usize,
-) -> usize
-    requires { ⌜ Has (now site) k × Axial parts ⌝ }
-    ensures { λ _. ⌜ lows (now (asked .exit)) ≡ lows (now (asked .entry)) ⌝ }
+// The end of a move waits, where something may have been marked; and its middle, if the label is a test: nothing else is marked there.
+fn push_by(asked: &mut [u8], label: Label, middle: usize, to: usize, tail: usize) -> usize
+    requires { ⌜ (middle < terms) × (to < terms) ⌝ }
+    ensures { λ _. ⌜ Aside (now (asked .entry)) (now (asked .exit)) ⌝ }
 {
-    let m = move_at(site, k, parts);
     if let Label::Test = label {
-        let one = push(asked, tail, m.middle);
-        return push(asked, one, m.to);
+        let one = push(asked, tail, middle);
+        return push(asked, one, to);
     }
-    push(asked, tail, m.to)
+    push(asked, tail, to)
 }
 
 // Triple k for the step of record r, whose axis takes triples.
@@ -106,23 +99,12 @@ fn go<'a>(
     tail: usize,
 ) -> usize
     requires { ⌜ Accepted (now site) triples × (k < triples) × Full (now numbers) × Climbs records (now up) (now role) × Whole (lows (now asked)) × Bits (now ends) × (r < records) × Tests (step .label) r × (step .axis ≢ 0) × (step .axis ≤ lastAxis) × (parts ≡ partsOf (step .axis)) ⌝ }
-    ensures { λ _. ⌜ StepChased (now (site .entry)) triples step (now (up .entry)) (now (role .entry)) (pairs (now (numbers .entry))) r (marks (lows (now (asked .entry))) (now (ends .entry))) (marks (lows (now (asked .exit))) (now (ends .exit))) ⌝ }
+    ensures { λ _. ⌜ Went (now (site .entry)) triples k step (now (up .entry)) (now (role .entry)) (pairs (now (numbers .entry))) r (marks (lows (now (asked .entry))) (now (ends .entry))) (marks (lows (now (asked .exit))) (now (ends .exit))) × Kept (now (asked .entry)) (now (asked .exit)) ⌝ }
 {
     let label = step.label;
-    if seek(
-        site,
-        k,
-        parts,
-        label,
-        up,
-        role,
-        numbers,
-        asked,
-        ends,
-        r,
-        false,
-    ) {
-        return push_by(site, k, parts, label, asked, tail);
+    let m = move_at(site, k, parts);
+    if pursue(up, role, numbers, asked, ends, label, r, m.middle, m.to) {
+        return push_by(asked, label, m.middle, m.to, tail);
     }
     tail
 }
@@ -141,8 +123,8 @@ fn go_all<'a>(
     t: usize,
     was: usize,
 ) -> usize
-    requires { ⌜ Accepted (now site) triples × Full (now numbers) × Climbs records (now up) (now role) × Whole (lows (now asked)) × Bits (now ends) × (r < records) × (t < terms) × Tests (step .label) r × (step .axis ≢ 0) × (step .axis ≤ lastAxis) ⌝ }
-    ensures { λ _. ⌜ StepChased (now (site .entry)) triples step (now (up .entry)) (now (role .entry)) (pairs (now (numbers .entry))) r (marks (lows (now (asked .entry))) (now (ends .entry))) (marks (lows (now (asked .exit))) (now (ends .exit))) ⌝ }
+    requires { ⌜ Accepted (now site) triples × Full (now numbers) × Climbs records (now up) (now role) × Whole (lows (now asked)) × Bits (now ends) × (r < records) × (t < terms) × Tests (step .label) r × (step .axis ≢ 0) × (step .axis ≤ lastAxis) × Threads (now site) triples (now asked) × Marked (marks (lows (now asked)) (now ends)) r t ⌝ }
+    ensures { λ _. ⌜ StepAsked (now (site .entry)) triples step (now (up .entry)) (now (role .entry)) (pairs (now (numbers .entry))) r t (marks (lows (now (asked .entry))) (now (ends .entry))) (marks (lows (now (asked .exit))) (now (ends .exit))) × Kept (now (asked .entry)) (now (asked .exit)) ⌝ }
 {
     let axis = step.axis;
     let parts = parts_of(axis);
@@ -181,18 +163,17 @@ fn rest_on<'a>(
     tail: usize,
 ) -> usize
     requires { ⌜ Full (now numbers) × Climbs records (now up) (now role) × Whole (lows (now asked)) × Bits (now ends) × (r < records) × (t < terms) × Tests label r ⌝ }
-    ensures { λ _. ⌜ RestChased (now (up .entry)) (now (role .entry)) (pairs (now (numbers .entry))) label r t (marks (lows (now (asked .entry))) (now (ends .entry))) (marks (lows (now (asked .exit))) (now (ends .exit))) ⌝ }
+    ensures { λ _. ⌜ Pursued (now (up .entry)) (now (role .entry)) (pairs (now (numbers .entry))) label r t t (marks (lows (now (asked .entry))) (now (ends .entry))) (marks (lows (now (asked .exit))) (now (ends .exit))) × Kept (now (asked .entry)) (now (asked .exit)) ⌝ }
 {
-    if rest(up, role, numbers, asked, ends, label, r, t, false) {
+    if pursue(up, role, numbers, asked, ends, label, r, t, t) {
         return push(asked, tail, t);
     }
     tail
 }
 
-// Staying at t for record r, if t stands at an end of a triple.
+// Staying at t for record r, if t is in the vocabulary.
 fn stay<'a>(
-    site: &[u8],
-    triples: usize,
+    words: &[u8; TERMS],
     up: &'a [u8; RECORDS],
     role: &'a [u8; RECORDS],
     numbers: &[u8],
@@ -203,18 +184,10 @@ fn stay<'a>(
     t: usize,
     tail: usize,
 ) -> usize
-    requires { ⌜ Accepted (now site) triples × Full (now numbers) × Climbs records (now up) (now role) × Whole (lows (now asked)) × Bits (now ends) × (r < records) × (t < terms) × Tests label r ⌝ }
-    ensures { λ _. ⌜ StayChased (now (site .entry)) triples (now (up .entry)) (now (role .entry)) (pairs (now (numbers .entry))) label r (marks (lows (now (asked .entry))) (now (ends .entry))) (marks (lows (now (asked .exit))) (now (ends .exit))) ⌝ }
+    requires { ⌜ Full (now numbers) × Climbs records (now up) (now role) × Whole (lows (now asked)) × Bits (now ends) × (r < records) × (t < terms) × Tests label r × Marked (marks (lows (now asked)) (now ends)) r t ⌝ }
+    ensures { λ _. ⌜ StayAsked (now (words .entry)) (now (up .entry)) (now (role .entry)) (pairs (now (numbers .entry))) label r t (marks (lows (now (asked .entry))) (now (ends .entry))) (marks (lows (now (asked .exit))) (now (ends .exit))) × Kept (now (asked .entry)) (now (asked .exit)) ⌝ }
 {
-    let k = witness(asked, t);
-    if triples <= k {
-        return tail;
-    }
-    let x = triple_at(site, k);
-    if x.subject == t {
-        return rest_on(up, role, numbers, asked, ends, label, r, t, tail);
-    }
-    if x.object == t {
+    if words[t] == 1 {
         return rest_on(up, role, numbers, asked, ends, label, r, t, tail);
     }
     tail
@@ -223,6 +196,7 @@ fn stay<'a>(
 // What the step of record r asks for at t, whatever its axis.
 fn ask_step<'a>(
     site: &[u8],
+    words: &[u8; TERMS],
     triples: usize,
     step: Step,
     up: &'a [u8; RECORDS],
@@ -234,8 +208,8 @@ fn ask_step<'a>(
     t: usize,
     tail: usize,
 ) -> usize
-    requires { ⌜ Accepted (now site) triples × Full (now numbers) × Climbs records (now up) (now role) × Whole (lows (now asked)) × Bits (now ends) × (r < records) × (t < terms) × Tests (step .label) r × (step .axis ≤ lastAxis) ⌝ }
-    ensures { λ _. ⌜ StepChased (now (site .entry)) triples step (now (up .entry)) (now (role .entry)) (pairs (now (numbers .entry))) r (marks (lows (now (asked .entry))) (now (ends .entry))) (marks (lows (now (asked .exit))) (now (ends .exit))) ⌝ }
+    requires { ⌜ Accepted (now site) triples × Full (now numbers) × Climbs records (now up) (now role) × Whole (lows (now asked)) × Bits (now ends) × (r < records) × (t < terms) × Tests (step .label) r × (step .axis ≤ lastAxis) × Threads (now site) triples (now asked) × WordsOf (siteOf (now site) triples) (now words) × Marked (marks (lows (now asked)) (now ends)) r t ⌝ }
+    ensures { λ _. ⌜ StepAsked (now (site .entry)) triples step (now (up .entry)) (now (role .entry)) (pairs (now (numbers .entry))) r t (marks (lows (now (asked .entry))) (now (ends .entry))) (marks (lows (now (asked .exit))) (now (ends .exit))) × Kept (now (asked .entry)) (now (asked .exit)) ⌝ }
 {
     if step.axis != 0 {
         return go_all(
@@ -259,24 +233,13 @@ fn ask_step<'a>(
         }
         return tail;
     }
-    stay(
-        site,
-        triples,
-        up,
-        role,
-        numbers,
-        asked,
-        ends,
-        label,
-        r,
-        t,
-        tail,
-    )
+    stay(words, up, role, numbers, asked, ends, label, r, t, tail)
 }
 
 // What the question of record r at t asks for, by its record; `first` is the record of a join's first operand.
 fn ask_on<'a>(
     site: &[u8],
+    words: &[u8; TERMS],
     triples: usize,
     rec: Record,
     first: usize,
@@ -289,12 +252,13 @@ fn ask_on<'a>(
     t: usize,
     tail: usize,
 ) -> usize
-    requires { ⌜ Accepted (now site) triples × Full (now numbers) × Climbs records (now up) (now role) × Whole (lows (now asked)) × Bits (now ends) × (r < records) × (t < terms) × Sits rec r × (first < records) ⌝ }
-    ensures { λ _. ⌜ RecordChased (now (site .entry)) triples rec first (now (up .entry)) (now (role .entry)) (pairs (now (numbers .entry))) r (marks (lows (now (asked .entry))) (now (ends .entry))) (marks (lows (now (asked .exit))) (now (ends .exit))) ⌝ }
+    requires { ⌜ Accepted (now site) triples × Full (now numbers) × Climbs records (now up) (now role) × Whole (lows (now asked)) × Bits (now ends) × (r < records) × (t < terms) × Sits rec r × (first < records) × Threads (now site) triples (now asked) × WordsOf (siteOf (now site) triples) (now words) × Marked (marks (lows (now asked)) (now ends)) r t ⌝ }
+    ensures { λ _. ⌜ RecordAsked (now (site .entry)) triples rec first (now (up .entry)) (now (role .entry)) (pairs (now (numbers .entry))) r t (marks (lows (now (asked .entry))) (now (ends .entry))) (marks (lows (now (asked .exit))) (now (ends .exit))) × Kept (now (asked .entry)) (now (asked .exit)) ⌝ }
 {
     match rec {
         Record::Step(step) => ask_step(
             site,
+            words,
             triples,
             step,
             up,
@@ -307,19 +271,18 @@ fn ask_on<'a>(
             tail,
         ),
         Record::Sequence => {
-            enter(asked, r, first, t, false);
+            mark(asked, first, t, false);
             tail
         }
         Record::Choice => {
-            enter(asked, r, first, t, false);
-            enter(asked, r, r - 1, t, false);
+            mark(asked, first, t, false);
+            mark(asked, r - 1, t, false);
             tail
         }
         Record::Star => {
-            enter(asked, r, r - 1, t, false);
+            mark(asked, r - 1, t, false);
             stay(
-                site,
-                triples,
+                words,
                 up,
                 role,
                 numbers,
@@ -337,6 +300,7 @@ fn ask_on<'a>(
 // The question of record r at t is asked on, if it waits.
 fn ask_one<'a>(
     site: &[u8],
+    words: &[u8; TERMS],
     triples: usize,
     rule: &[u8],
     starts: &[u8; RECORDS],
@@ -351,14 +315,15 @@ fn ask_one<'a>(
     t: usize,
     tail: usize,
 ) -> usize
-    requires { ⌜ Ready (now site) triples (now rule) (now starts) count (now up) (now role) (now first) × Full (now numbers) × Whole (lows (now asked)) × Bits (now ends) × (r < count) × (t < terms) ⌝ }
-    ensures { λ _. ⌜ Chased (now (site .entry)) triples (now (rule .entry)) (now (up .entry)) (now (role .entry)) (now (first .entry)) (pairs (now (numbers .entry))) (marks (lows (now (asked .entry))) (now (ends .entry))) (marks (lows (now (asked .exit))) (now (ends .exit))) ⌝ }
+    requires { ⌜ Ready (now site) triples (now rule) (now starts) count (now up) (now role) (now first) × Full (now numbers) × Whole (lows (now asked)) × Bits (now ends) × (r < count) × (t < terms) × Threads (now site) triples (now asked) × WordsOf (siteOf (now site) triples) (now words) ⌝ }
+    ensures { λ _. ⌜ Chased (now (site .entry)) triples (now (rule .entry)) (now (up .entry)) (now (role .entry)) (now (first .entry)) (pairs (now (numbers .entry))) (now (asked .entry)) (now (ends .entry)) (now (asked .exit)) (now (ends .exit)) × OneServed r t (now (asked .entry)) (now (asked .exit)) ⌝ }
 {
     if take_up(asked, r, t) {
         let rec = record_of(rule, starts, r);
         let operand = first[r] as usize;
         return ask_on(
             site,
+            words,
             triples,
             rec,
             operand,
@@ -378,6 +343,7 @@ fn ask_one<'a>(
 // Every question that waits at t. Operands stand before what they are of, so it goes down.
 fn ask_at<'a>(
     site: &[u8],
+    words: &[u8; TERMS],
     triples: usize,
     rule: &[u8],
     starts: &[u8; RECORDS],
@@ -391,8 +357,8 @@ fn ask_at<'a>(
     t: usize,
     was: usize,
 ) -> usize
-    requires { ⌜ Ready (now site) triples (now rule) (now starts) count (now up) (now role) (now first) × Full (now numbers) × Whole (lows (now asked)) × Bits (now ends) × (t < terms) ⌝ }
-    ensures { λ _. ⌜ Chased (now (site .entry)) triples (now (rule .entry)) (now (up .entry)) (now (role .entry)) (now (first .entry)) (pairs (now (numbers .entry))) (marks (lows (now (asked .entry))) (now (ends .entry))) (marks (lows (now (asked .exit))) (now (ends .exit))) ⌝ }
+    requires { ⌜ Ready (now site) triples (now rule) (now starts) count (now up) (now role) (now first) × Full (now numbers) × Whole (lows (now asked)) × Bits (now ends) × (t < terms) × Threads (now site) triples (now asked) × WordsOf (siteOf (now site) triples) (now words) ⌝ }
+    ensures { λ _. ⌜ Chased (now (site .entry)) triples (now (rule .entry)) (now (up .entry)) (now (role .entry)) (now (first .entry)) (pairs (now (numbers .entry))) (now (asked .entry)) (now (ends .entry)) (now (asked .exit)) (now (ends .exit)) × SomeServed count t (now (asked .entry)) (now (asked .exit)) ⌝ }
 {
     let mut tail = was;
     let mut r = count;
@@ -400,6 +366,7 @@ fn ask_at<'a>(
         r -= 1;
         tail = ask_one(
             site,
+            words,
             triples,
             rule,
             starts,
@@ -418,50 +385,50 @@ fn ask_at<'a>(
     tail
 }
 
-// The term at the head of the queue is taken off and asked on.
-fn serve<'a>(
-    site: &[u8],
-    triples: usize,
-    rule: &[u8],
-    starts: &[u8; RECORDS],
-    count: usize,
-    up: &'a [u8; RECORDS],
-    role: &'a [u8; RECORDS],
-    first: &'a [u8; RECORDS],
-    numbers: &[u8],
-    asked: &mut [u8],
-    ends: &mut [u8],
-    head: usize,
-    tail: usize,
-) -> usize
-    requires { ⌜ Ready (now site) triples (now rule) (now starts) count (now up) (now role) (now first) × Full (now numbers) × Whole (lows (now asked)) × Bits (now ends) ⌝ }
-    ensures { λ _. ⌜ Chased (now (site .entry)) triples (now (rule .entry)) (now (up .entry)) (now (role .entry)) (now (first .entry)) (pairs (now (numbers .entry))) (marks (lows (now (asked .entry))) (now (ends .entry))) (marks (lows (now (asked .exit))) (now (ends .exit))) ⌝ }
+// The term at the head of the queue; none where no term is queued, or where enough were.
+fn queued(asked: &[u8], head: usize, tail: usize) -> usize
+    ensures { λ t. ⌜ (t < terms → (head ≤ most) × (head < tail)) ⌝ }
 {
-    let t = cell(asked, QUEUE + head % TERMS);
-    if TERMS <= t {
-        return tail;
+    if MOST < head {
+        return TERMS;
     }
-    put_cell(asked, WAITING + t, 0);
-    ask_at(
-        site,
-        triples,
-        rule,
-        starts,
-        count,
-        up,
-        role,
-        first,
-        numbers,
-        asked,
-        ends,
-        t,
-        tail,
-    )
+    if tail <= head {
+        return TERMS;
+    }
+    cell(asked, QUEUE + head % TERMS)
 }
 
-// From the question that is marked at the start, what is asked for is marked, until no term waits.
+// The head of the queue after a turn.
+fn passed(head: usize, tail: usize) -> usize
+    ensures { λ next. ⌜ (head ≤ next) × (head ≤ most → head < tail → head < next) ⌝ }
+{
+    if MOST < head {
+        return head;
+    }
+    if tail <= head {
+        return head;
+    }
+    head + 1
+}
+
+// The term to be asked at next: the one at the head of the queue, which is taken off, or one at which a question waits; none where
+// none does.
+fn pick(asked: &mut [u8], count: usize, head: usize, tail: usize) -> usize
+    requires { ⌜ Whole (lows (now asked)) × (count ≤ records) ⌝ }
+    ensures { λ t. ⌜ Picked count head tail (now (asked .entry)) (now (asked .exit)) t ⌝ }
+{
+    let t = queued(asked, head, tail);
+    if t < TERMS {
+        put_cell(asked, WAITING + t, 0);
+        return t;
+    }
+    left_over(asked, count)
+}
+
+// From the question that is marked at the start, what is asked for is marked, until no question waits.
 pub fn chase<'a>(
     site: &[u8],
+    words: &[u8; TERMS],
     triples: usize,
     rule: &[u8],
     starts: &[u8; RECORDS],
@@ -474,18 +441,18 @@ pub fn chase<'a>(
     asked: &mut [u8],
     ends: &mut [u8],
 )
-    requires { ⌜ Ready (now site) triples (now rule) (now starts) count (now up) (now role) (now first) × Full (now numbers) × Whole (lows (now asked)) × Bits (now ends) × (start < terms) ⌝ }
-    ensures { λ _. ⌜ Chased (now (site .entry)) triples (now (rule .entry)) (now (up .entry)) (now (role .entry)) (now (first .entry)) (pairs (now (numbers .entry))) (marks (lows (now (asked .entry))) (now (ends .entry))) (marks (lows (now (asked .exit))) (now (ends .exit))) ⌝ }
+    requires { ⌜ Ready (now site) triples (now rule) (now starts) count (now up) (now role) (now first) × Full (now numbers) × Whole (lows (now asked)) × Bits (now ends) × (start < terms) × Threads (now site) triples (now asked) × WordsOf (siteOf (now site) triples) (now words) ⌝ }
+    ensures { λ _. ⌜ Chased (now (site .entry)) triples (now (rule .entry)) (now (up .entry)) (now (role .entry)) (now (first .entry)) (pairs (now (numbers .entry))) (now (asked .entry)) (now (ends .entry)) (now (asked .exit)) (now (ends .exit)) × NoneWaits (now (asked .exit)) (count * terms) ⌝ }
 {
     clear_waiting(asked);
     let mut tail = push(asked, 0, start);
     let mut head = 0;
-    while head < tail {
-        if MOST < head {
-            return;
-        }
-        tail = serve(
+    let mut t = pick(asked, count, head, tail);
+    while t < TERMS {
+        head = passed(head, tail);
+        tail = ask_at(
             site,
+            words,
             triples,
             rule,
             starts,
@@ -496,9 +463,9 @@ pub fn chase<'a>(
             numbers,
             asked,
             ends,
-            head,
+            t,
             tail,
         );
-        head += 1;
+        t = pick(asked, count, head, tail);
     }
 }

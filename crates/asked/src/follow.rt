@@ -10,6 +10,7 @@ ghost use Rattle.meaning.specs.Limits.{terms, records};
 ghost use Rattle.fewest.specs.Frame.{Climbs};
 ghost use Rattle.fewest.specs.Lows.{lows};
 ghost use Rattle.asked.specs.Mark.{marks};
+ghost use Rattle.asked.specs.Serve.{Kept};
 ghost use Rattle.asked.specs.Seek.{Whole, Bits, Followed-up};
 
 // Where record r's expression is done at u, what follows is marked: the second of a sequence, or a star's operand once more, is the
@@ -24,7 +25,7 @@ pub fn follow<'a>(
     was: bool,
 ) -> bool
     requires { ⌜ Climbs records (now up) (now role) × Whole (lows (now asked)) × Bits (now ends) × (r < records) × (u < terms) ⌝ }
-    ensures { λ more. ⌜ Followed-up (now (up .entry)) (now (role .entry)) r u (marks (lows (now (asked .entry))) (now (ends .entry))) (marks (lows (now (asked .exit))) (now (ends .exit))) was more ⌝ }
+    ensures { λ _. ⌜ Followed-up (now (up .entry)) (now (role .entry)) r u (marks (lows (now (asked .entry))) (now (ends .entry))) (marks (lows (now (asked .exit))) (now (ends .exit))) × Kept (now (asked .entry)) (now (asked .exit)) ⌝ }
 {
     let mut more = was;
     let mut at = r;

@@ -6,8 +6,7 @@ use records::bytes::BASE;
 ghost use mathlib.Core.Path.{_≡_};
 ghost use Prim.Native.Nat.{_+_, _<_, _≤_};
 ghost use lib.ListN.{length, getD, set};
-ghost use Rattle.fewest.specs.Lows.{lows};
-ghost use Rattle.fewest.specs.Cells.{values, cells};
+ghost use Rattle.fewest.specs.Cells.{values, cells, HalfPut, CellPut};
 ghost use Rattle.fewest.specs.Threads.{free};
 ghost use Rattle.fewest.specs.Kept.{Kept};
 
@@ -32,14 +31,14 @@ pub fn cell(scratch: &[u8], i: usize) -> usize
 // The high six bits of a byte take a value, the low ones stay.
 fn put_half(scratch: &mut [u8], at: usize, v: usize)
     requires { ⌜ at < length (now scratch) ⌝ }
-    ensures { λ _. ⌜ lows (now (scratch .exit)) ≡ lows (now (scratch .entry)) ⌝ }
+    ensures { λ _. ⌜ HalfPut at (now (scratch .entry)) (now (scratch .exit)) ⌝ }
 {
     scratch[at] = (v % HALF * LOW + wide(scratch[at]) % LOW) as u8;
 }
 
 // The cell takes a value; the marks stay.
 pub fn put_cell(scratch: &mut [u8], i: usize, v: usize)
-    ensures { λ _. ⌜ lows (now (scratch .exit)) ≡ lows (now (scratch .entry)) ⌝ }
+    ensures { λ _. ⌜ CellPut i (now (scratch .entry)) (now (scratch .exit)) ⌝ }
 {
     if scratch.len() / 2 <= i {
         return;

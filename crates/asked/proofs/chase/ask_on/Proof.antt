@@ -1,9 +1,12 @@
 -- `asked::chase::ask_on` meets its contract: the works of each kind of record, in their order.
 use native.Mathlib.Omega.{arith}
 use borrow.Author.Needs.{needs}
-use Rattle.asked.specs.Seek.{as-empty}
-use Rattle.asked.proofs.Fit.{row-fit}
-use Rattle.asked.proofs.Chasing.{chased-step, chased-sequence, chased-choice, chased-star}
+use Rattle.asked.specs.Chase.{as-empty}
+use Rattle.asked.proofs.LowBits.{lows-bits}
+use Rattle.asked.proofs.OneMark.{one-whole, one-keeps}
+use Rattle.asked.proofs.Serving.{kept-then}
+use Rattle.asked.proofs.ByMoves.{copy-asked}
+use Rattle.asked.proofs.Chasing.{asked-step, asked-sequence, asked-choice, asked-star}
 use Rattle.asked.proofs.chase.ask_on.Statement.{statement}
 use Rattle.asked.proofs.chase.ask_on.Tie as tie
 
@@ -12,44 +15,42 @@ enum-known-rec c = search needs
 
 ask-step-requires : tie.Need-ask-step-requires
 ask-step-requires c κs =
-    let pre = c .before .before .before .before .before .before .before .before .before .pre in
-    let (known, tests) = rw (c .before .before .before .rec .given .1) at (pre .7) in
-    (pre .0, pre .1, pre .2, pre .3, pre .4, pre .5, pre .6, tests, known)
+    let p = c .before .before .before .before .before .before .before .before .before .pre in
+    let (known, tests) = rw (c .before .before .before .rec .given .1) at (p .7) in
+    (p .0, p .1, p .2, p .3, p .4, p .5, p .6, tests, known, p .9, p .10, p .11)
 
 enum-told : tie.Need-enum-told
 enum-told c = search needs
 
-enter-requires : tie.Need-enter-requires
-enter-requires c κs = search needs
+mark-requires : tie.Need-mark-requires
+mark-requires c κs = search needs
 
 enum-told-2 : tie.Need-enum-told-2
 enum-told-2 c = search needs
 
-enter-requires-2 : tie.Need-enter-requires-2
-enter-requires-2 c κs = search needs
+mark-requires-2 : tie.Need-mark-requires-2
+mark-requires-2 c κs = search needs
 
-sub-enter : tie.Need-sub-enter
-sub-enter c = rw (c .before .before .before .before .before .enum-told2 .given .1) at (c .before .before .before .before .before .before .before .before .before .before .before .pre .7)
+sub-mark : tie.Need-sub-mark
+sub-mark c = rw (c .before .before .before .before .before .enum-told2 .given .1) at (c .before .before .before .before .before .before .before .before .before .before .before .pre .7)
 
-enter-requires-3 : tie.Need-enter-requires-3
-enter-requires-3 c κs =
-    let pre = c .before .before .before .before .before .before .before .before .before .before .before .pre in
-    (row-fit (λ F T ends. c .before .before .before .enter2 .ensures F T ends .reached) (pre .3), pre .5, omega (arith, pre .5), pre .6)
+mark-requires-3 : tie.Need-mark-requires-3
+mark-requires-3 c κs = let p = c .before .before .before .before .before .before .before .before .before .before .before .pre in (one-whole (lows-bits _) (c .before .before .before .mark2 .ensures .0) (p .3), omega (arith, p .5), p .6)
 
 enum-told-3 : tie.Need-enum-told-3
 enum-told-3 c = search needs
 
-sub-enter-2 : tie.Need-sub-enter-2
-sub-enter-2 c = rw (c .before .enum-told3 .given .1) at (c .before .before .before .before .before .before .before .pre .7)
+sub-mark-2 : tie.Need-sub-mark-2
+sub-mark-2 c = rw (c .before .enum-told3 .given .1) at (c .before .before .before .before .before .before .before .pre .7)
 
-enter-requires-4 : tie.Need-enter-requires-4
-enter-requires-4 c κs = search needs
+mark-requires-4 : tie.Need-mark-requires-4
+mark-requires-4 c κs = search needs
 
 stay-requires : tie.Need-stay-requires
 stay-requires c κs =
-    let pre = c .before .before .before .before .before .before .before .before .before .before .before .before .pre in
-    let whole = row-fit (λ F T ends. c .before .before .before .before .enter4 .ensures F T ends .reached) (pre .3) in
-    (pre .0, pre .1, pre .2, whole, pre .4, pre .5, pre .6, tt)
+    let p = c .before .before .before .before .before .before .before .before .before .before .before .before .pre in
+    let one = c .before .before .before .before .mark4 .ensures .0 in
+    (p .1, p .2, one-whole (lows-bits _) one (p .3), p .4, p .5, p .6, tt, one-keeps (lows-bits _) one _ _ (p .11))
 
 same-length : tie.Need-same-length
 same-length c = search needs
@@ -58,21 +59,29 @@ same-length-2 : tie.Need-same-length-2
 same-length-2 c = search needs
 
 returns : tie.Need-returns
-returns c = λ g. chased-step _ _ _ (c .before .before .before .before .before .before .before .before .rec .given .1) (c .before .before .before .before .ask-step .ensures g)
+returns c = let (asked, kept) = c .before .before .before .before .ask-step .ensures in (λ g. asked-step _ (c .before .before .before .before .before .before .before .before .rec .given .1) (asked g), kept)
 
 same-length-3 : tie.Need-same-length-3
 same-length-3 c = search needs
 
 returns-2 : tie.Need-returns-2
-returns-2 c = λ g. chased-sequence _ _ _ (c .before .before .before .before .enum-told .given .1) (c .before .before .enter .ensures _ _ _ .reached)
+returns-2 c =
+    let p = c .before .before .before .before .before .before .before .before .before .before .pre in
+    let (one, kept) = c .before .before .mark .ensures in
+    (λ g. asked-sequence _ (c .before .before .before .before .enum-told .given .1) (copy-asked (p .3) (lows-bits _) (p .8) (p .6) (p .11) one), kept)
 
 same-length-4 : tie.Need-same-length-4
 same-length-4 c = search needs
 
 returns-3 : tie.Need-returns-3
-returns-3 c = λ g.
-    chased-choice _ _ _ (c .before .before .before .before .before .before .before .before .enum-told2 .given .1) (c .before .before .before .before .before .before .enter2 .ensures _ _ _ .reached)
-    (c .before .before .enter3 .ensures _ _ _ .reached)
+returns-3 c =
+    let p = c .before .before .before .before .before .before .before .before .before .before .before .before .before .before .pre in
+    let (one, kept) = c .before .before .before .before .before .before .mark2 .ensures in
+    let (other, more) = c .before .before .mark3 .ensures in (
+      λ g. asked-choice _ (c .before .before .before .before .before .before .before .before .enum-told2 .given .1) (copy-asked (p .3) (lows-bits _) (p .8) (p .6) (p .11) one)
+          (copy-asked (one-whole (lows-bits _) one (p .3)) (lows-bits _) (omega (arith, p .5)) (p .6) (one-keeps (lows-bits _) one _ _ (p .11)) other),
+      kept-then kept more,
+    )
 
 same-length-5 : tie.Need-same-length-5
 same-length-5 c = search needs
@@ -81,9 +90,14 @@ same-length-6 : tie.Need-same-length-6
 same-length-6 c = search needs
 
 returns-4 : tie.Need-returns-4
-returns-4 c = λ g.
-    chased-star _ _ _ (c .before .before .before .before .before .before .before .before .before .before .before .enum-told3 .given .1) (c .before .before .before .before .before .before .before .before .before .enter4 .ensures _ _ _ .reached)
-    (c .before .before .before .before .stay .ensures _ as-empty g)
+returns-4 c =
+    let p = c .before .before .before .before .before .before .before .before .before .before .before .before .before .before .before .before .before .pre in
+    let (one, kept) = c .before .before .before .before .before .before .before .before .before .mark4 .ensures in
+    let (rest, more) = c .before .before .before .before .stay .ensures in (
+      λ g. asked-star _ (c .before .before .before .before .before .before .before .before .before .before .before .enum-told3 .given .1) (copy-asked (p .3) (lows-bits _) (omega (arith, p .5)) (p .6) (p .11) one)
+          (rest _ g _ (p .10) tt as-empty),
+      kept-then kept more,
+    )
 
 pub ask-on-spec : {M : Type 1} → statement M
 ask-on-spec =
@@ -92,14 +106,14 @@ ask-on-spec =
     enum-known-rec
     ask-step-requires
     enum-told
-    enter-requires
+    mark-requires
     enum-told-2
-    enter-requires-2
-    sub-enter
-    enter-requires-3
+    mark-requires-2
+    sub-mark
+    mark-requires-3
     enum-told-3
-    sub-enter-2
-    enter-requires-4
+    sub-mark-2
+    mark-requires-4
     stay-requires
     same-length
     same-length-2

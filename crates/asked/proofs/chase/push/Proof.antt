@@ -1,13 +1,13 @@
--- `asked::chase::push` meets its contract: only cells are stored.
-use mathlib.Core.Path.{_∙_}
+-- `asked::chase::push` meets its contract: only cells behind the threads are stored.
 use native.Mathlib.Omega.{arith}
 use borrow.Author.Needs.{needs}
-use Rattle.meaning.specs.Limits.{terms}
+use Rattle.meaning.specs.Limits.{terms, triples}
+use Rattle.asked.proofs.Serving.{aside-none, aside-then, put-aside}
 use Rattle.asked.proofs.chase.push.Statement.{statement}
 use Rattle.asked.proofs.chase.push.Tie as tie
 
 returns : tie.Need-returns
-returns c = search needs
+returns c = aside-none _
 
 add-cell : tie.Need-add-cell
 unfolding terms
@@ -20,7 +20,7 @@ same-length : tie.Need-same-length
 same-length c = search needs
 
 returns-2 : tie.Need-returns-2
-returns-2 c = search needs
+returns-2 c = aside-none _
 
 add-put-cell : tie.Need-add-put-cell
 unfolding terms
@@ -42,7 +42,8 @@ same-length-2 : tie.Need-same-length-2
 same-length-2 c = search needs
 
 returns-3 : tie.Need-returns-3
-returns-3 c = c .before .before .put-cell2 .ensures ∙ c .before .before .before .before .before .before .put-cell .ensures
+unfolding terms triples
+returns-3 c = aside-then (put-aside (c .before .before .before .before .before .before .put-cell .ensures) (omega arith)) (put-aside (c .before .before .put-cell2 .ensures) (omega arith))
 
 pub push-spec : {M : Type 1} → statement M
 push-spec =

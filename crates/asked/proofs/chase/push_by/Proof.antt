@@ -1,36 +1,26 @@
--- `asked::chase::push_by` meets its contract: the terms of the triple are terms, and only cells are stored.
-use mathlib.Core.Path.{_∙_}
+-- `asked::chase::push_by` meets its contract: what is queued first stays so.
 use borrow.Author.Needs.{needs}
-use Rattle.fewest.proofs.Axes.{Terms, moved-terms}
+use Rattle.asked.proofs.Serving.{aside-then}
 use Rattle.asked.proofs.chase.push_by.Statement.{statement}
 use Rattle.asked.proofs.chase.push_by.Tie as tie
-
--- the terms of the triple are terms
-in-terms : (c : tie.After-move-at) → Terms (c .move-at .result)
-in-terms c =
-    let pre = c .before .before .before .pre in
-    moved-terms (c .move-at .ensures) (pre .0 .1) (pre .0 .2) (pre .1)
-
-move-at-requires : tie.Need-move-at-requires
-move-at-requires c κs = search needs
 
 enum-told : tie.Need-enum-told
 enum-told c = search needs
 
 push-requires : tie.Need-push-requires
-push-requires c κs = in-terms (c .before .before .before) .middle
+push-requires c κs = search needs
 
 push-requires-2 : tie.Need-push-requires-2
-push-requires-2 c κs = in-terms (c .before .before .before .before .before .before .before) .to
+push-requires-2 c κs = search needs
 
 same-length : tie.Need-same-length
 same-length c = search needs
 
 returns : tie.Need-returns
-returns c = c .before .before .push2 .ensures ∙ c .before .before .before .before .before .before .push .ensures
+returns c = aside-then (c .before .before .before .before .before .before .push .ensures) (c .before .before .push2 .ensures)
 
 push-requires-3 : tie.Need-push-requires-3
-push-requires-3 c κs = in-terms (c .before .before) .to
+push-requires-3 c κs = search needs
 
 same-length-2 : tie.Need-same-length-2
 same-length-2 c = search needs
@@ -42,7 +32,6 @@ pub push-by-spec : {M : Type 1} → statement M
 push-by-spec =
     tie.close
     (tie.spec
-    move-at-requires
     enum-told
     push-requires
     push-requires-2

@@ -1,11 +1,11 @@
 -- `asked::chase::rest_on` meets its contract: what the look marked stays marked where the term is queued.
 use borrow.Author.Needs.{needs}
-use Rattle.asked.proofs.Chasing.{rested-chased}
+use Rattle.asked.proofs.Serving.{kept-then}
 use Rattle.asked.proofs.chase.rest_on.Statement.{statement}
 use Rattle.asked.proofs.chase.rest_on.Tie as tie
 
-rest-requires : tie.Need-rest-requires
-rest-requires c κs = search needs
+pursue-requires : tie.Need-pursue-requires
+pursue-requires c κs = search needs
 
 push-requires : tie.Need-push-requires
 push-requires c κs = search needs
@@ -17,7 +17,10 @@ same-length-2 : tie.Need-same-length-2
 same-length-2 c = search needs
 
 returns : tie.Need-returns
-returns c = rw (c .before .before .push .ensures) (rested-chased (c .before .before .before .before .before .before .before .before .before .rest .ensures))
+returns c =
+    let (look, kept) = c .before .before .before .before .before .before .before .before .before .pursue .ensures in
+    let aside = c .before .before .push .ensures in
+    (rw (aside .same) look, kept-then kept (aside .kept))
 
 same-length-3 : tie.Need-same-length-3
 same-length-3 c = search needs
@@ -26,13 +29,13 @@ same-length-4 : tie.Need-same-length-4
 same-length-4 c = search needs
 
 returns-2 : tie.Need-returns-2
-returns-2 c = rested-chased (c .before .before .before .before .before .rest .ensures)
+returns-2 c = c .before .before .before .before .before .pursue .ensures
 
 pub rest-on-spec : {M : Type 1} → statement M
 rest-on-spec =
     tie.close
     (tie.spec
-    rest-requires
+    pursue-requires
     push-requires
     same-length
     same-length-2

@@ -2,6 +2,7 @@
 use Prim.Native.Nat.{_<_}
 use native.Mathlib.Omega.{arith}
 use borrow.Author.Needs.{needs}
+use Rattle.asked.proofs.Serving.{kept-none}
 use Rattle.asked.proofs.OneMark.{if-marked, if-left}
 use Rattle.asked.proofs.seek.ask_test.Statement.{statement}
 use Rattle.asked.proofs.seek.ask_test.Tie as tie
@@ -26,16 +27,18 @@ mark-requires : tie.Need-mark-requires
 mark-requires c κs = search needs
 
 returns : tie.Need-returns
-returns c = if-left (rw (c .enum-told .given .1))
+returns c = (if-left (rw (c .enum-told .given .1)), kept-none _)
 
 returns-2 : tie.Need-returns-2
-returns-2 c = if-left (rw (c .enum-told2 .given .1))
+returns-2 c = (if-left (rw (c .enum-told2 .given .1)), kept-none _)
 
 same-length : tie.Need-same-length
 same-length c = search needs
 
 returns-3 : tie.Need-returns-3
-returns-3 c = if-marked (rw (c .before .before .before .before .enum-told3 .given .1)) (c .before .before .mark .ensures)
+returns-3 c =
+    let (marked, kept) = c .before .before .mark .ensures in
+    (if-marked (rw (c .before .before .before .before .enum-told3 .given .1)) marked, kept)
 
 pub ask-test-spec : {M : Type 1} → statement M
 ask-test-spec =

@@ -1,14 +1,14 @@
 -- `asked::spread::ask` meets its contract: the byte table is freed of marks and the ends are cleared, the whole rule's question is
--- marked, and what it asks for is marked, by the chase and then until nothing more is; the marks alone are left.
+-- marked, and what it asks for, until no question waits; the marks alone are left.
 use mathlib.Core.Path.{sym, ap, _∙_}
 use native.Mathlib.Omega.{arith}
-use lib.ListN.{length}
+use lib.ListN.{length, getD}
 use borrow.Author.Needs.{needs}
 use Rattle.meaning.specs.Fewest.{anywhere}
 use Rattle.asked.specs.Seek.{Whole}
 use Rattle.asked.proofs.Fit.{marks-on-fit}
-use Rattle.asked.proofs.Chasing.{chased-settled}
-use Rattle.asked.proofs.Beginning.{cleared-whole, begun-fit, begun-marks, settled-from}
+use Rattle.asked.proofs.Serving.{threads-kept}
+use Rattle.asked.proofs.Beginning.{cleared-whole, begun-fit, begun-marks, none-answered, chased-from}
 use Rattle.asked.proofs.spread.ask.Statement.{statement}
 use Rattle.asked.proofs.spread.ask.Tie as tie
 
@@ -23,29 +23,18 @@ sub-mark c = search needs
 
 mark-requires : tie.Need-mark-requires
 mark-requires c κs =
-    let pre = c .before .before .before .before .before .before .before .before .before .before .before .before .before .before .pre in
-    let few = pre .0 .few in
-    (cleared-whole (c .before .before .before .before .before .before .before .free .ensures), omega arith, pre .4)
+    let p = c .before .before .before .before .before .before .before .before .before .before .before .before .before .before .pre in
+    let few = p .0 .few in
+    (cleared-whole (c .before .before .before .before .before .before .before .free .ensures .0), omega arith, p .4)
 
 chase-requires : tie.Need-chase-requires
 chase-requires c κs =
-    let marked = c .before .before .before .before in
-    let lent = marked .before .before .before .before in
-    let freed = lent .before .before .before .before in
-    let start = freed .before .before .before .before .before .before .before in
-    let (whole, ends) = begun-fit (length (start .args .ends .now)) (freed .free .ensures) (lent .clear-row .ensures) (marked .mark .ensures) in
-    (start .pre .0, start .pre .1, whole, ends, start .pre .4)
-
-settle-requires : tie.Need-settle-requires
-settle-requires c κs =
-    let chased = c .before .before .before .before .before .before in
-    let marked = chased .before .before .before .before .before in
-    let lent = marked .before .before .before .before in
-    let freed = lent .before .before .before .before in
-    let start = freed .before .before .before .before .before .before .before in
-    let fit = begun-fit (length (start .args .ends .now)) (freed .free .ensures) (lent .clear-row .ensures) (marked .mark .ensures) in
-    let (whole, ends) = marks-on-fit (chased .chase .ensures anywhere) fit in
-    (start .pre .0, start .pre .1, whole, ends, start .pre .5)
+    let x = c .before .before .before .before .before .before .before .before .before .before .before .before .before .before .before .before .before .before .before in
+    let p = x .pre in
+    let (freed, cells) = c .before .before .before .before .before .before .before .before .before .before .before .before .free .ensures in
+    let (one, kept) = c .before .before .before .before .mark .ensures in
+    let (whole, ends) = begun-fit (length (x .args .ends .now)) freed (c .before .before .before .before .before .before .before .before .clear-row .ensures) one in
+    (p .0, p .1, whole, ends, p .4, threads-kept (p .0 .good) (λ i h. kept .below i h ∙ ap (λ l. getD l i 0) cells) (p .6), p .5)
 
 narrow-requires : tie.Need-narrow-requires
 narrow-requires c κs = tt
@@ -53,31 +42,23 @@ narrow-requires c κs = tt
 same-length : tie.Need-same-length
 unfolding Whole
 same-length c =
-    let settled = c .before .before .before .before .before .before .before .before in
-    let chased = settled .before .before .before .before .before .before .before in
-    let marked = chased .before .before .before .before .before in
-    let lent = marked .before .before .before .before in
-    let freed = lent .before .before .before .before in
-    let start = freed .before .before .before .before .before .before .before in
-    let fit = begun-fit (length (start .args .ends .now)) (freed .free .ensures) (lent .clear-row .ensures) (marked .mark .ensures) in
-    let (whole, _) = marks-on-fit (settled .settle .ensures .reached anywhere) (marks-on-fit (chased .chase .ensures anywhere) fit) in
-    ap length (c .before .before .narrow .ensures) ∙ whole ∙ sym (start .pre .2)
+    let x = c .before .before .before .before .before .before .before .before .before .before .before .before .before .before .before .before .before .before .before .before .before .before .before .before .before .before .before .before in
+    let fit = begun-fit (length (x .args .ends .now)) (c .before .before .before .before .before .before .before .before .before .before .before .before .before .before .before .before .before .before .before .before .before .free .ensures .0) (c .before .before .before .before .before .before .before .before .before .before .before .before .before .before .before .before .before .clear-row .ensures) (c .before .before .before .before .before .before .before .before .before .before .before .before .before .mark .ensures .0) in
+    let (whole, _) = marks-on-fit (c .before .before .before .before .before .before .before .before .chase .ensures .0 .reached anywhere) fit in
+    ap length (c .before .before .narrow .ensures) ∙ whole ∙ sym (x .pre .2)
 
 same-length-2 : tie.Need-same-length-2
 same-length-2 c = search needs
 
 returns : tie.Need-returns
 returns c =
-    let narrowed = c .before .before in
-    let settled = narrowed .before .before .before .before .before .before in
-    let chased = settled .before .before .before .before .before .before .before in
-    let marked = chased .before .before .before .before .before in
-    let lent = marked .before .before .before .before in
-    let freed = lent .before .before .before .before in
-    let start = freed .before .before .before .before .before .before .before in
-    let begins = begun-marks (length (start .args .ends .now)) (freed .free .ensures) (lent .clear-row .ensures) (marked .mark .ensures) in
-    rw (narrowed .narrow .ensures)
-    (settled-from (rw (← start .pre .0 .counted) begins) (chased-settled (chased .chase .ensures) (settled .settle .ensures)))
+    let x = c .before .before .before .before .before .before .before .before .before .before .before .before .before .before .before .before .before .before .before .before .before .before .before .before .before .before .before .before in
+    let counted = x .pre .0 .counted in
+    let (freed, _) = c .before .before .before .before .before .before .before .before .before .before .before .before .before .before .before .before .before .before .before .before .before .free .ensures in
+    let (one, kept) = c .before .before .before .before .before .before .before .before .before .before .before .before .before .mark .ensures in
+    let (chased, none) = c .before .before .before .before .before .before .before .before .chase .ensures in
+    let begins = begun-marks (length (x .args .ends .now)) freed (c .before .before .before .before .before .before .before .before .before .before .before .before .before .before .before .before .before .clear-row .ensures) one in
+    rw (c .before .before .narrow .ensures) (chased-from (rw (← counted) begins) (λ g. none-answered freed kept) chased (rw (← counted) none))
 
 pub ask-spec : {M : Type 1} → statement M
 ask-spec =
@@ -88,7 +69,6 @@ ask-spec =
     sub-mark
     mark-requires
     chase-requires
-    settle-requires
     narrow-requires
     same-length
     same-length-2

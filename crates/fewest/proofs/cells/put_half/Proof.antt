@@ -1,6 +1,7 @@
--- `fewest::cells::put_half` meets its contract: the lowest bit stored is the one that stood there.
+-- `fewest::cells::put_half` meets its contract: the two low bits stored are those that stood there.
 use native.Mathlib.Omega.{arith}
-use Rattle.fewest.proofs.Lows.{lows-set-keep}
+use Rattle.fewest.proofs.Lows.{lowests-set-keep}
+use lib.Seq.{getD-set-other}
 use borrow.Author.Needs.{needs}
 use Rattle.fewest.proofs.cells.put_half.Statement.{statement}
 use Rattle.fewest.proofs.cells.put_half.Tie as tie
@@ -29,7 +30,10 @@ same-length c = search needs
 returns : tie.Need-returns
 returns c =
     let x = c .before .before .before in
-    lows-set-keep (x .args .scratch .now) (x .args .at) _ (omega (arith, c .wide .ensures .0))
+    let b = x .args .scratch .now in record {
+      low = lowests-set-keep b (x .args .at) _ (omega (arith, c .wide .ensures .0));
+      others = λ k other. getD-set-other b (x .args .at) k _ 0 other;
+    }
 
 pub put-half-spec : {M : Type 1} → statement M
 put-half-spec =
