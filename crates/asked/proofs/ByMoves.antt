@@ -2,10 +2,10 @@
 -- for nothing unmarked. A copy asks for the operand, and is never done itself.
 use Prim.Native.Nat.{ℕ, _<_}
 use mathlib.Core.Path.{_≡_, refl, _∙_}
+use mathlib.Core.Bool.{Bool, true, false}
 use mathlib.Core.Logic.{_≢_}
 use mathlib.Core.List.{List}
 use native.Mathlib.Omega.{arith}
-use lib.ListN.{getD}
 use borrow.Author.Tests.{eq-eqb, lt-ltb}
 use Rattle.meaning.specs.Limits.{terms, records}
 use Rattle.meaning.specs.Site as meant
@@ -13,11 +13,14 @@ use Rattle.meaning.specs.Move.{Axis, self, Move, staying, going, coming, any, o
 use Rattle.meaning.specs.Move as move
 use Rattle.records.specs.declared.Label.{Label}
 use Rattle.records.specs.declared.Label.the-variants.{Any, Term, Test}
-use Rattle.records.specs.Words.{WordsOf}
+use Rattle.records.specs.Sites.{siteOf}
 use Rattle.fewest.specs.Frame.{Frame, frame}
 use Rattle.fewest.specs.Offer.{Work, copying, resting}
+use Rattle.fewest.specs.Tells.{Tells}
+use Rattle.fewest.specs.Threads.{Threads}
 use Rattle.fewest.specs.Work.{workOf, Nameless}
 use Rattle.fewest.proofs.ByTriples.{Takes, by-triple}
+use Rattle.fewest.proofs.Tells.{told, told-not}
 use Rattle.asked.specs.Mark.{Marks, marks, Marked, Leads, by-step, by-test, by-rest, Wants, follows, tests, enters, asking, Marking, stay, CalmAt}
 use Rattle.asked.specs.Seek.{Whole, Bits, OneMarked, AllNext, CalmBy, Goes, along, at-name, in-place, Pursued}
 use Rattle.asked.specs.Chase.{WorkAsked, Stay, as-empty, as-step, StayAsked}
@@ -87,16 +90,17 @@ stays : {s : meant.Site} {l : Label} {w : Work} {t : ℕ} → Stay l w → meant
 stays as-empty v = in-place v
 stays as-step v = along (staying (record { number = refl; rests = v; passes = refl; ends = refl }))
 
-module _ {words up role T : List ℕ} {l : Label} {r t : ℕ} (h : t < terms) {M : Marks} (marked : Marked M r t) where
+module _ {X up role T : List ℕ} {l : Label} {n r t : ℕ} (h : t < terms) {M : Marks} (marked : Marked M r t) {ok : Bool}
+    (word : (b : List ℕ) → Threads b n X → t < terms → Tells (meant.Voc (siteOf b n) t) ok) where
   -- Staying at a vocabulary term was looked at,
-  pub word-looked : getD words t 0 ≡ 1 → {N : Marks} → Pursued up role T l r t t M N → StayAsked words up role T l r t M N
-  word-looked e look s g w of free kind =
-      let (made, calm) = look s g w t h marked (stays kind (of .tells t h .exactly .0 e)) in
+  pub word-looked : ok ≡ true → {N : Marks} → Pursued up role T l r t t M N → StayAsked n X up role T l r t M N
+  word-looked yea look b g w threads free kind =
+      let (made, calm) = look (siteOf b n) g w t h marked (stays kind (told (word b threads h) yea)) in
       (made, calm-stay kind free (λ _. calm))
 
   -- and at another nothing is to be seen.
-  pub word-passed : getD words t 0 ≢ 1 → StayAsked words up role T l r t M M
-  word-passed other s g w of free kind = (stay, calm-stay kind free (λ v. absurd (other (of .tells t h .exactly .1 v))))
+  pub word-passed : ok ≡ false → StayAsked n X up role T l r t M M
+  word-passed nay b g w threads free kind = (stay, calm-stay kind free (λ v. absurd (told-not (word b threads h) nay v)))
 
 -- A named self step stays at its name, and elsewhere asks for nothing.
 module _ {F : Frame} {T : List ℕ} {n r t : ℕ} {M : Marks} where

@@ -12,16 +12,16 @@ use lib.ListN.{length, getD, set, List·getD-map, length-set}
 use lib.Seq.{getD-set-other, set-out}
 use borrow.Author.Tests.{eq-eqb, ne-eqb}
 use Rattle.meaning.specs.Limits.{terms}
-use Rattle.records.specs.Sites.{Accepted}
 use Rattle.fewest.specs.Cells.{lowest, cells, lowests, CellPut}
+use Rattle.fewest.specs.Kept.{Below}
 use Rattle.fewest.specs.Lows.{low, lows}
 use Rattle.fewest.specs.Offer.{place}
-use Rattle.fewest.specs.Threads.{subject-first, predicate-first, object-first, predicate-next, object-next, free, Threads}
+use Rattle.fewest.specs.Threads.{free}
 use Rattle.fewest.proofs.Decoded.{cells-same}
 use Rattle.fewest.proofs.Lows.{getD-lows, map-set-keep, lows-set-keep}
 use Rattle.fewest.proofs.Places.{stored, one-place}
 use Rattle.asked.specs.Mark.{blank}
-use Rattle.asked.specs.Serve.{Waits, serving, serveds, Below, Kept, Aside, OneServed, SomeServed, TakenUp, most, Picked}
+use Rattle.asked.specs.Serve.{Waits, serving, serveds, Kept, Aside, OneServed, SomeServed, TakenUp, most, Picked}
 use Rattle.asked.proofs.Marking.{blank-mark}
 
 -- which bytes are served
@@ -147,22 +147,6 @@ put-aside {b} {d} put behind = record {
     below = λ j h. put .others j (omega arith);
   };
 }
-
--- The threads are as they were where their cells are.
-pub threads-kept : {site b d : List ℕ} {n : ℕ} → Accepted site n → Below b d → Threads site n b → Threads site n d
-threads-kept good below threads =
-    let few = good .few in
-    record {
-      subjects = λ t h. rw (below (subject-first + t) (omega arith)) (threads .subjects t h);
-      predicates = record {
-        first = λ t h. rw (below (predicate-first + t) (omega arith)) (threads .predicates .first t h);
-        next = λ i l h. rw (below (predicate-next + i) (omega arith)) (threads .predicates .next i l h);
-      };
-      objects = record {
-        first = λ t h. rw (below (object-first + t) (omega arith)) (threads .objects .first t h);
-        next = λ i l h. rw (below (object-next + i) (omega arith)) (threads .objects .next i l h);
-      };
-    }
 
 -- One question more is served, if it waited.
 module _ {r t : ℕ} {b d : List ℕ} (one : OneServed r t b d) where

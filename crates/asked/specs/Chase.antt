@@ -4,7 +4,6 @@ use Prim.Native.Nat.{ℕ, _<_}
 use mathlib.Core.List.{List, List·Memᴰ}
 use lib.ListN.{length, getD}
 use Rattle.meaning.specs.Limits.{terms}
-use Rattle.meaning.specs.Site as meant
 use Rattle.meaning.specs.Move.{self, Move, any}
 use Rattle.meaning.specs.Expression.{Rec, starring}
 use Rattle.meaning.specs.Fewest.{Goal}
@@ -13,14 +12,15 @@ use Rattle.records.specs.declared.Label.the-variants.{Any}
 use Rattle.records.specs.declared.Step.{Step}
 use Rattle.records.specs.declared.Record.{Record}
 use Rattle.records.specs.Sites.{siteOf}
-use Rattle.records.specs.Words.{WordsOf}
 use Rattle.records.specs.Rules.{axisNumbered, recOf, recordsOf}
 use Rattle.fewest.specs.Frame.{Frame, frame}
+use Rattle.fewest.specs.Kept.{Below}
 use Rattle.fewest.specs.Lows.{lows}
 use Rattle.fewest.specs.Offer.{Work, resting, worksOf}
+use Rattle.fewest.specs.Threads.{Threads}
 use Rattle.fewest.specs.Work.{workOf, Nameless, Rows}
 use Rattle.asked.specs.Mark.{Marks, marks, Marked, Marking, CalmAt, Marks-on}
-use Rattle.asked.specs.Serve.{Served, Below}
+use Rattle.asked.specs.Serve.{Served}
 use Rattle.asked.specs.Seek.{CalmBy}
 
 -- triple k was looked at for a step of record r, from where it starts
@@ -44,10 +44,10 @@ pub data Stay : Label → Work → Type 0 where
   as-empty : Stay Any resting
   as-step : {l : Label} → Stay l (workOf self l)
 
--- by staying, where the words are the site's
-abbrev pub StayAsked : List ℕ → List ℕ → List ℕ → List ℕ → Label → ℕ → ℕ → Marks → Marks → Type 0
-StayAsked words up role T l r t M M′ =
-    (s : meant.Site) (g : Goal) (w : Work) → WordsOf s words → Nameless l → Stay l w → WorkAsked (frame s up role g) T w r t M M′
+-- by staying, where the threads are the site's
+abbrev pub StayAsked : ℕ → List ℕ → List ℕ → List ℕ → List ℕ → Label → ℕ → ℕ → Marks → Marks → Type 0
+StayAsked n X up role T l r t M M′ =
+    (b : List ℕ) (g : Goal) (w : Work) → Threads b n X → Nameless l → Stay l w → WorkAsked (frame (siteOf b n) up role g) T w r t M M′
 
 -- by each work of a record
 abbrev pub RecordAsked : List ℕ → ℕ → Record → ℕ → List ℕ → List ℕ → List ℕ → ℕ → ℕ → Marks → Marks → Type 0

@@ -8,10 +8,10 @@ use mathlib.Core.List.{List, map}
 use lib.Dec.{eqb}
 use lib.ListN.{getD, set}
 use Rattle.meaning.specs.Limits.{terms, records}
-use Rattle.fewest.specs.Cells.{lowest, cells}
+use Rattle.fewest.specs.Cells.{lowest}
+use Rattle.fewest.specs.Kept.{Below}
 use Rattle.fewest.specs.Lows.{lows}
 use Rattle.fewest.specs.Offer.{place, view}
-use Rattle.fewest.specs.Threads.{free}
 use Rattle.asked.specs.Mark.{blank}
 
 -- the byte at this place is marked and waits
@@ -37,10 +37,6 @@ serveds b = map serving b
 -- the question of record r at t was asked on
 abbrev pub Served : List ℕ → ℕ → ℕ → Type 0
 Served b r t = view (serveds b) r t ≡ 1
-
--- the cells of the threads are as they were
-abbrev pub Below : List ℕ → List ℕ → Type 0
-Below b b′ = (i : ℕ) → i < free → getD (cells b′) i 0 ≡ getD (cells b) i 0
 
 -- the same questions are served, and the threads are as they were
 pub record Kept (b b′ : List ℕ) : Type 0 where

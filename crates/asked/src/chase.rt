@@ -12,6 +12,7 @@ use fewest::look::parts_of;
 use fewest::threads::FREE;
 use fewest::threads::first_from;
 use fewest::threads::next_from;
+use fewest::word::word;
 use records::Label;
 use records::RECORDS;
 use records::Record;
@@ -22,8 +23,7 @@ ghost use mathlib.Core.Path.{_≡_};
 ghost use mathlib.Core.Logic.{_≢_};
 ghost use Prim.Native.Nat.{_*_, _<_, _≤_};
 ghost use Rattle.meaning.specs.Limits.{terms, records};
-ghost use Rattle.records.specs.Sites.{Accepted, siteOf};
-ghost use Rattle.records.specs.Words.{WordsOf};
+ghost use Rattle.records.specs.Sites.{Accepted};
 ghost use Rattle.records.specs.Rules.{lastAxis};
 ghost use Rattle.fewest.specs.Lows.{lows};
 ghost use Rattle.fewest.specs.Pairs.{pairs};
@@ -173,7 +173,7 @@ fn rest_on<'a>(
 
 // Staying at t for record r, if t is in the vocabulary.
 fn stay<'a>(
-    words: &[u8; TERMS],
+    triples: usize,
     up: &'a [u8; RECORDS],
     role: &'a [u8; RECORDS],
     numbers: &[u8],
@@ -185,9 +185,9 @@ fn stay<'a>(
     tail: usize,
 ) -> usize
     requires { ⌜ Full (now numbers) × Climbs records (now up) (now role) × Whole (lows (now asked)) × Bits (now ends) × (r < records) × (t < terms) × Tests label r × Marked (marks (lows (now asked)) (now ends)) r t ⌝ }
-    ensures { λ _. ⌜ StayAsked (now (words .entry)) (now (up .entry)) (now (role .entry)) (pairs (now (numbers .entry))) label r t (marks (lows (now (asked .entry))) (now (ends .entry))) (marks (lows (now (asked .exit))) (now (ends .exit))) × Kept (now (asked .entry)) (now (asked .exit)) ⌝ }
+    ensures { λ _. ⌜ StayAsked triples (now (asked .entry)) (now (up .entry)) (now (role .entry)) (pairs (now (numbers .entry))) label r t (marks (lows (now (asked .entry))) (now (ends .entry))) (marks (lows (now (asked .exit))) (now (ends .exit))) × Kept (now (asked .entry)) (now (asked .exit)) ⌝ }
 {
-    if words[t] == 1 {
+    if word(asked, triples, t) {
         return rest_on(up, role, numbers, asked, ends, label, r, t, tail);
     }
     tail
@@ -196,7 +196,6 @@ fn stay<'a>(
 // What the step of record r asks for at t, whatever its axis.
 fn ask_step<'a>(
     site: &[u8],
-    words: &[u8; TERMS],
     triples: usize,
     step: Step,
     up: &'a [u8; RECORDS],
@@ -208,7 +207,7 @@ fn ask_step<'a>(
     t: usize,
     tail: usize,
 ) -> usize
-    requires { ⌜ Accepted (now site) triples × Full (now numbers) × Climbs records (now up) (now role) × Whole (lows (now asked)) × Bits (now ends) × (r < records) × (t < terms) × Tests (step .label) r × (step .axis ≤ lastAxis) × Threads (now site) triples (now asked) × WordsOf (siteOf (now site) triples) (now words) × Marked (marks (lows (now asked)) (now ends)) r t ⌝ }
+    requires { ⌜ Accepted (now site) triples × Full (now numbers) × Climbs records (now up) (now role) × Whole (lows (now asked)) × Bits (now ends) × (r < records) × (t < terms) × Tests (step .label) r × (step .axis ≤ lastAxis) × Threads (now site) triples (now asked) × Marked (marks (lows (now asked)) (now ends)) r t ⌝ }
     ensures { λ _. ⌜ StepAsked (now (site .entry)) triples step (now (up .entry)) (now (role .entry)) (pairs (now (numbers .entry))) r t (marks (lows (now (asked .entry))) (now (ends .entry))) (marks (lows (now (asked .exit))) (now (ends .exit))) × Kept (now (asked .entry)) (now (asked .exit)) ⌝ }
 {
     if step.axis != 0 {
@@ -233,13 +232,12 @@ fn ask_step<'a>(
         }
         return tail;
     }
-    stay(words, up, role, numbers, asked, ends, label, r, t, tail)
+    stay(triples, up, role, numbers, asked, ends, label, r, t, tail)
 }
 
 // What the question of record r at t asks for, by its record; `first` is the record of a join's first operand.
 fn ask_on<'a>(
     site: &[u8],
-    words: &[u8; TERMS],
     triples: usize,
     rec: Record,
     first: usize,
@@ -252,13 +250,12 @@ fn ask_on<'a>(
     t: usize,
     tail: usize,
 ) -> usize
-    requires { ⌜ Accepted (now site) triples × Full (now numbers) × Climbs records (now up) (now role) × Whole (lows (now asked)) × Bits (now ends) × (r < records) × (t < terms) × Sits rec r × (first < records) × Threads (now site) triples (now asked) × WordsOf (siteOf (now site) triples) (now words) × Marked (marks (lows (now asked)) (now ends)) r t ⌝ }
+    requires { ⌜ Accepted (now site) triples × Full (now numbers) × Climbs records (now up) (now role) × Whole (lows (now asked)) × Bits (now ends) × (r < records) × (t < terms) × Sits rec r × (first < records) × Threads (now site) triples (now asked) × Marked (marks (lows (now asked)) (now ends)) r t ⌝ }
     ensures { λ _. ⌜ RecordAsked (now (site .entry)) triples rec first (now (up .entry)) (now (role .entry)) (pairs (now (numbers .entry))) r t (marks (lows (now (asked .entry))) (now (ends .entry))) (marks (lows (now (asked .exit))) (now (ends .exit))) × Kept (now (asked .entry)) (now (asked .exit)) ⌝ }
 {
     match rec {
         Record::Step(step) => ask_step(
             site,
-            words,
             triples,
             step,
             up,
@@ -282,7 +279,7 @@ fn ask_on<'a>(
         Record::Star => {
             mark(asked, r - 1, t, false);
             stay(
-                words,
+                triples,
                 up,
                 role,
                 numbers,
@@ -300,7 +297,6 @@ fn ask_on<'a>(
 // The question of record r at t is asked on, if it waits.
 fn ask_one<'a>(
     site: &[u8],
-    words: &[u8; TERMS],
     triples: usize,
     rule: &[u8],
     starts: &[u8; RECORDS],
@@ -315,7 +311,7 @@ fn ask_one<'a>(
     t: usize,
     tail: usize,
 ) -> usize
-    requires { ⌜ Ready (now site) triples (now rule) (now starts) count (now up) (now role) (now first) × Full (now numbers) × Whole (lows (now asked)) × Bits (now ends) × (r < count) × (t < terms) × Threads (now site) triples (now asked) × WordsOf (siteOf (now site) triples) (now words) ⌝ }
+    requires { ⌜ Ready (now site) triples (now rule) (now starts) count (now up) (now role) (now first) × Full (now numbers) × Whole (lows (now asked)) × Bits (now ends) × (r < count) × (t < terms) × Threads (now site) triples (now asked) ⌝ }
     ensures { λ _. ⌜ Chased (now (site .entry)) triples (now (rule .entry)) (now (up .entry)) (now (role .entry)) (now (first .entry)) (pairs (now (numbers .entry))) (now (asked .entry)) (now (ends .entry)) (now (asked .exit)) (now (ends .exit)) × OneServed r t (now (asked .entry)) (now (asked .exit)) ⌝ }
 {
     if take_up(asked, r, t) {
@@ -323,7 +319,6 @@ fn ask_one<'a>(
         let operand = first[r] as usize;
         return ask_on(
             site,
-            words,
             triples,
             rec,
             operand,
@@ -343,7 +338,6 @@ fn ask_one<'a>(
 // Every question that waits at t. Operands stand before what they are of, so it goes down.
 fn ask_at<'a>(
     site: &[u8],
-    words: &[u8; TERMS],
     triples: usize,
     rule: &[u8],
     starts: &[u8; RECORDS],
@@ -357,7 +351,7 @@ fn ask_at<'a>(
     t: usize,
     was: usize,
 ) -> usize
-    requires { ⌜ Ready (now site) triples (now rule) (now starts) count (now up) (now role) (now first) × Full (now numbers) × Whole (lows (now asked)) × Bits (now ends) × (t < terms) × Threads (now site) triples (now asked) × WordsOf (siteOf (now site) triples) (now words) ⌝ }
+    requires { ⌜ Ready (now site) triples (now rule) (now starts) count (now up) (now role) (now first) × Full (now numbers) × Whole (lows (now asked)) × Bits (now ends) × (t < terms) × Threads (now site) triples (now asked) ⌝ }
     ensures { λ _. ⌜ Chased (now (site .entry)) triples (now (rule .entry)) (now (up .entry)) (now (role .entry)) (now (first .entry)) (pairs (now (numbers .entry))) (now (asked .entry)) (now (ends .entry)) (now (asked .exit)) (now (ends .exit)) × SomeServed count t (now (asked .entry)) (now (asked .exit)) ⌝ }
 {
     let mut tail = was;
@@ -366,7 +360,6 @@ fn ask_at<'a>(
         r -= 1;
         tail = ask_one(
             site,
-            words,
             triples,
             rule,
             starts,
@@ -428,7 +421,6 @@ fn pick(asked: &mut [u8], count: usize, head: usize, tail: usize) -> usize
 // From the question that is marked at the start, what is asked for is marked, until no question waits.
 pub fn chase<'a>(
     site: &[u8],
-    words: &[u8; TERMS],
     triples: usize,
     rule: &[u8],
     starts: &[u8; RECORDS],
@@ -441,7 +433,7 @@ pub fn chase<'a>(
     asked: &mut [u8],
     ends: &mut [u8],
 )
-    requires { ⌜ Ready (now site) triples (now rule) (now starts) count (now up) (now role) (now first) × Full (now numbers) × Whole (lows (now asked)) × Bits (now ends) × (start < terms) × Threads (now site) triples (now asked) × WordsOf (siteOf (now site) triples) (now words) ⌝ }
+    requires { ⌜ Ready (now site) triples (now rule) (now starts) count (now up) (now role) (now first) × Full (now numbers) × Whole (lows (now asked)) × Bits (now ends) × (start < terms) × Threads (now site) triples (now asked) ⌝ }
     ensures { λ _. ⌜ Chased (now (site .entry)) triples (now (rule .entry)) (now (up .entry)) (now (role .entry)) (now (first .entry)) (pairs (now (numbers .entry))) (now (asked .entry)) (now (ends .entry)) (now (asked .exit)) (now (ends .exit)) × NoneWaits (now (asked .exit)) (count * terms) ⌝ }
 {
     clear_waiting(asked);
@@ -452,7 +444,6 @@ pub fn chase<'a>(
         head = passed(head, tail);
         tail = ask_at(
             site,
-            words,
             triples,
             rule,
             starts,

@@ -7,8 +7,6 @@ ghost use mathlib.Core.Path.{_≡_};
 ghost use Prim.Native.Nat.{_*_, _<_};
 ghost use lib.ListN.{length, replicate};
 ghost use Rattle.meaning.specs.Limits.{terms, records};
-ghost use Rattle.records.specs.Sites.{siteOf};
-ghost use Rattle.records.specs.Words.{WordsOf};
 ghost use Rattle.fewest.specs.Cells.{cells};
 ghost use Rattle.fewest.specs.Lows.{lows};
 ghost use Rattle.fewest.specs.Pairs.{pairs};
@@ -69,7 +67,6 @@ fn narrow(asked: &mut [u8])
 // The questions that the whole rule asks at the start, and the ends that it leads to, where a table of ends is lent.
 pub fn ask<'a>(
     site: &[u8],
-    words: &[u8; TERMS],
     triples: usize,
     rule: &[u8],
     starts: &[u8; RECORDS],
@@ -82,7 +79,7 @@ pub fn ask<'a>(
     asked: &mut [u8],
     ends: &mut [u8],
 )
-    requires { ⌜ Ready (now site) triples (now rule) (now starts) count (now up) (now role) (now first) × Full (now numbers) × Whole (now asked) × (0 < count) × (start < terms) × WordsOf (siteOf (now site) triples) (now words) × Threads (now site) triples (now asked) ⌝ }
+    requires { ⌜ Ready (now site) triples (now rule) (now starts) count (now up) (now role) (now first) × Full (now numbers) × Whole (now asked) × (0 < count) × (start < terms) × Threads (now site) triples (now asked) ⌝ }
     ensures { λ _. ⌜ MarkedOver (now (site .entry)) triples (now (rule .entry)) (now (up .entry)) (now (role .entry)) (now (first .entry)) (pairs (now (numbers .entry))) start (length (now (ends .entry))) (marks (now (asked .exit)) (now (ends .exit))) ⌝ }
 {
     free(asked);
@@ -90,7 +87,6 @@ pub fn ask<'a>(
     mark(asked, count - 1, start, false);
     chase(
         site,
-        words,
         triples,
         rule,
         starts,

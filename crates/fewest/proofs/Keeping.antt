@@ -7,13 +7,13 @@ use native.Mathlib.Omega.{arith}
 use native.Mathlib.Decide.{decLt}
 use lib.ListN.{length, getD, set, length-set, List·getD-eq-default}
 use lib.Seq.{getD-set-other}
-use Rattle.meaning.specs.Limits.{terms, triples}
 use Rattle.meaning.specs.Fewest.{Goal}
+use Rattle.records.specs.Sites.{Accepted}
 use Rattle.fewest.specs.Cells.{cells}
 use Rattle.fewest.specs.Table.{Full}
-use Rattle.fewest.specs.Threads.{free, subject-first, subjectOf, Firsts, Threaded, Threads}
+use Rattle.fewest.specs.Threads.{subject-first, predicate-first, object-first, predicate-next, object-next, free, Threads}
 use Rattle.fewest.specs.Work.{Hinted}
-use Rattle.fewest.specs.Kept.{Kept, Levelled}
+use Rattle.fewest.specs.Kept.{Below, Kept, Levelled}
 use Rattle.fewest.proofs.Decoded.{cells-at, cells-long}
 use Rattle.fewest.proofs.Hints.{hinted-none, hinted-then, hinted-full}
 
@@ -47,24 +47,21 @@ kept-byte X i v behind = record { long = long; same = same }
       | no l ↦ none (set X i v) j (rw long (omega arith)) ∙ sym (none X j (omega arith))
     ]
 
-module _ {n : ℕ} (few : n ≤ triples) {X Y : List ℕ} (kept : Kept X Y) where
-  firsts-kept : {key : ℕ → ℕ} {k : ℕ} (at-first : ℕ) → at-first + terms ≤ free → Firsts key n at-first (cells X) k → Firsts key n at-first (cells Y) k
-  firsts-kept at-first firsts old = λ t h. rw (kept .same (at-first + t) (omega arith)) (old t h)
-
-  threaded-kept : {key : ℕ → ℕ} {at-first at-next k : ℕ} → at-first + terms ≤ free → at-next + triples ≤ free →
-      Threaded key n at-first at-next (cells X) k → Threaded key n at-first at-next (cells Y) k
-  threaded-kept {key} {at-first} {at-next} {k} firsts nexts old = record {
-    first = firsts-kept at-first firsts (old .first);
-    next = λ i l h. rw (kept .same (at-next + i) (omega arith)) (old .next i l h);
-  }
-
-  -- Threads that are kept stand.
-  pub threads-kept : (b : List ℕ) → Threads b n X → Threads b n Y
-  threads-kept b threads = record {
-    subjects = firsts-kept subject-first (omega arith) (threads .subjects);
-    predicates = threaded-kept (omega arith) (omega arith) (threads .predicates);
-    objects = threaded-kept (omega arith) (omega arith) (threads .objects);
-  }
+-- Threads stand where their cells are as they were.
+pub threads-kept : {site X Y : List ℕ} {n : ℕ} → Accepted site n → Below X Y → Threads site n X → Threads site n Y
+threads-kept good below threads =
+    let few = good .few in
+    record {
+      subjects = λ t h. rw (below (subject-first + t) (omega arith)) (threads .subjects t h);
+      predicates = record {
+        first = λ t h. rw (below (predicate-first + t) (omega arith)) (threads .predicates .first t h);
+        next = λ i l h. rw (below (predicate-next + i) (omega arith)) (threads .predicates .next i l h);
+      };
+      objects = record {
+        first = λ t h. rw (below (object-first + t) (omega arith)) (threads .objects .first t h);
+        next = λ i l h. rw (below (object-next + i) (omega arith)) (threads .objects .next i l h);
+      };
+    }
 
 module _ {b rule up role first : List ℕ} {n : ℕ} {g : Goal} where
   -- nothing was done

@@ -9,9 +9,13 @@ use Rattle.fewest.specs.Threads.{free}
 use Rattle.fewest.specs.Work.{Hinted}
 
 -- the cells before the free ones are as they were
+abbrev pub Below : List ℕ → List ℕ → Type 0
+Below X Y = (i : ℕ) → i < free → getD (cells Y) i 0 ≡ getD (cells X) i 0
+
+-- and so is the length
 pub record Kept (X Y : List ℕ) : Type 0 where
   pub long : length Y ≡ length X
-  pub same : (i : ℕ) → i < free → getD (cells Y) i 0 ≡ getD (cells X) i 0
+  pub same : Below X Y
 
 -- the numbers are reached by lowering, and of scratch the threads are kept
 pub record Levelled (b : List ℕ) (n : ℕ) (rule up role first : List ℕ) (g : Goal) (N N′ X X′ : List ℕ) : Type 0 where

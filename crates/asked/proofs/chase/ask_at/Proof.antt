@@ -14,17 +14,18 @@ use Rattle.asked.specs.Chase.{Chased}
 use Rattle.asked.proofs.Marking.{marks-on-long, marks-on-grows}
 use Rattle.asked.proofs.LowBits.{same-long}
 use Rattle.asked.proofs.Fit.{marks-on-fit}
-use Rattle.asked.proofs.Serving.{aside-none, threads-kept, Turned, turned-none, turned-more, turned-all}
+use Rattle.fewest.proofs.Keeping.{threads-kept}
+use Rattle.asked.proofs.Serving.{aside-none, Turned, turned-none, turned-more, turned-all}
 use Rattle.asked.proofs.Chasing.{chased-aside, chased-then}
 use Rattle.asked.proofs.chase.ask_at.Statement.{statement}
 use Rattle.asked.proofs.chase.ask_at.Tie as tie
 
 abbrev Inv-loop : tie.InvT-loop
-Inv-loop site words triples rule starts count up role first numbers asked₀ ends₀ t was tail₀ r₀ asked ends tail r =
+Inv-loop site triples rule starts count up role first numbers asked₀ ends₀ t was tail₀ r₀ asked ends tail r =
     (r ≤ count) × Chased site triples rule up role first (pairs numbers) asked₀ ends₀ asked ends × Turned count t r asked₀ asked
 
 abbrev μ-loop : tie.MeasureT-loop
-μ-loop site words triples rule starts count up role first numbers asked₀ ends₀ t was tail₀ r₀ asked ends tail r = r
+μ-loop site triples rule starts count up role first numbers asked₀ ends₀ t was tail₀ r₀ asked ends tail r = r
 
 loop-holds : tie.Need-loop-holds Inv-loop μ-loop
 loop-holds c = (omega arith, chased-aside (aside-none _), turned-none _ _ _)
@@ -37,7 +38,7 @@ ask-one-requires c κs =
     let p = c .before .before .before .before .before .before .before .before .before .pre in
     let (_, chased, _) = c .before .before .before .loop .inv in
     let (whole, ends) = marks-on-fit (chased .reached anywhere) (p .2, p .3) in
-    (p .0, p .1, whole, ends, omega arith, p .4, threads-kept (p .0 .good) (chased .below) (p .5), p .6)
+    (p .0, p .1, whole, ends, omega arith, p .4, threads-kept (p .0 .good) (chased .below) (p .5))
 
 loop-less : tie.Need-loop-less Inv-loop μ-loop
 loop-less c = omega arith

@@ -4,6 +4,7 @@ use borrow.Author.Needs.{needs}
 use Rattle.asked.specs.Chase.{as-empty}
 use Rattle.asked.proofs.LowBits.{lows-bits}
 use Rattle.asked.proofs.OneMark.{one-whole, one-keeps}
+use Rattle.fewest.proofs.Keeping.{threads-kept}
 use Rattle.asked.proofs.Serving.{kept-then}
 use Rattle.asked.proofs.ByMoves.{copy-asked}
 use Rattle.asked.proofs.Chasing.{asked-step, asked-sequence, asked-choice, asked-star}
@@ -17,7 +18,7 @@ ask-step-requires : tie.Need-ask-step-requires
 ask-step-requires c κs =
     let p = c .before .before .before .before .before .before .before .before .before .pre in
     let (known, tests) = rw (c .before .before .before .rec .given .1) at (p .7) in
-    (p .0, p .1, p .2, p .3, p .4, p .5, p .6, tests, known, p .9, p .10, p .11)
+    (p .0, p .1, p .2, p .3, p .4, p .5, p .6, tests, known, p .9, p .10)
 
 enum-told : tie.Need-enum-told
 enum-told c = search needs
@@ -50,7 +51,7 @@ stay-requires : tie.Need-stay-requires
 stay-requires c κs =
     let p = c .before .before .before .before .before .before .before .before .before .before .before .before .pre in
     let one = c .before .before .before .before .mark4 .ensures .0 in
-    (p .1, p .2, one-whole (lows-bits _) one (p .3), p .4, p .5, p .6, tt, one-keeps (lows-bits _) one _ _ (p .11))
+    (p .1, p .2, one-whole (lows-bits _) one (p .3), p .4, p .5, p .6, tt, one-keeps (lows-bits _) one _ _ (p .10))
 
 same-length : tie.Need-same-length
 same-length c = search needs
@@ -68,7 +69,7 @@ returns-2 : tie.Need-returns-2
 returns-2 c =
     let p = c .before .before .before .before .before .before .before .before .before .before .pre in
     let (one, kept) = c .before .before .mark .ensures in
-    (λ g. asked-sequence _ (c .before .before .before .before .enum-told .given .1) (copy-asked (p .3) (lows-bits _) (p .8) (p .6) (p .11) one), kept)
+    (λ g. asked-sequence _ (c .before .before .before .before .enum-told .given .1) (copy-asked (p .3) (lows-bits _) (p .8) (p .6) (p .10) one), kept)
 
 same-length-4 : tie.Need-same-length-4
 same-length-4 c = search needs
@@ -78,8 +79,8 @@ returns-3 c =
     let p = c .before .before .before .before .before .before .before .before .before .before .before .before .before .before .pre in
     let (one, kept) = c .before .before .before .before .before .before .mark2 .ensures in
     let (other, more) = c .before .before .mark3 .ensures in (
-      λ g. asked-choice _ (c .before .before .before .before .before .before .before .before .enum-told2 .given .1) (copy-asked (p .3) (lows-bits _) (p .8) (p .6) (p .11) one)
-          (copy-asked (one-whole (lows-bits _) one (p .3)) (lows-bits _) (omega (arith, p .5)) (p .6) (one-keeps (lows-bits _) one _ _ (p .11)) other),
+      λ g. asked-choice _ (c .before .before .before .before .before .before .before .before .enum-told2 .given .1) (copy-asked (p .3) (lows-bits _) (p .8) (p .6) (p .10) one)
+          (copy-asked (one-whole (lows-bits _) one (p .3)) (lows-bits _) (omega (arith, p .5)) (p .6) (one-keeps (lows-bits _) one _ _ (p .10)) other),
       kept-then kept more,
     )
 
@@ -94,8 +95,8 @@ returns-4 c =
     let p = c .before .before .before .before .before .before .before .before .before .before .before .before .before .before .before .before .before .pre in
     let (one, kept) = c .before .before .before .before .before .before .before .before .before .mark4 .ensures in
     let (rest, more) = c .before .before .before .before .stay .ensures in (
-      λ g. asked-star _ (c .before .before .before .before .before .before .before .before .before .before .before .enum-told3 .given .1) (copy-asked (p .3) (lows-bits _) (omega (arith, p .5)) (p .6) (p .11) one)
-          (rest _ g _ (p .10) tt as-empty),
+      λ g. asked-star _ (c .before .before .before .before .before .before .before .before .before .before .before .enum-told3 .given .1) (copy-asked (p .3) (lows-bits _) (omega (arith, p .5)) (p .6) (p .10) one)
+          (rest _ g _ (threads-kept (p .0) (kept .below) (p .9)) tt as-empty),
       kept-then kept more,
     )
 

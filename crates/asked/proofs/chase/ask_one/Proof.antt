@@ -6,7 +6,8 @@ use Rattle.meaning.specs.Limits.{records}
 use Rattle.records.specs.Rules.{recOf}
 use Rattle.fewest.specs.Offer.{view}
 use Rattle.asked.specs.Serve.{TakenUp}
-use Rattle.asked.proofs.Serving.{aside-none, waits-marked, threads-kept}
+use Rattle.fewest.proofs.Keeping.{threads-kept}
+use Rattle.asked.proofs.Serving.{aside-none, waits-marked}
 use Rattle.asked.proofs.Chasing.{chased-aside, one-chased}
 use Rattle.asked.proofs.chase.ask_one.Statement.{statement}
 use Rattle.asked.proofs.chase.ask_one.Tie as tie
@@ -43,7 +44,6 @@ ask-on-requires c κs =
       rw (c .before .before .before .record-of .ensures) (ready .sits _ (p .4)),
       ready .firsts _ (p .4),
       threads-kept (ready .good) (taken .below) (p .6),
-      p .7,
       rw (taken .same) (waits-marked (x .args .asked .now) _ (taken .waited (c .before .before .before .before .if1 .taken))),
     )
 

@@ -12,7 +12,7 @@ use Rattle.asked.proofs.chase.ask_step.Statement.{statement}
 use Rattle.asked.proofs.chase.ask_step.Tie as tie
 
 go-all-requires : tie.Need-go-all-requires
-go-all-requires c κs = let p = c .before .before .before .before .before .before .before .before .pre in (p .0, p .1, p .2, p .3, p .4, p .5, p .6, p .7, c .before .before .if1 .taken, p .8, p .9, p .11)
+go-all-requires c κs = let p = c .before .before .before .before .before .before .before .before .pre in (p .0, p .1, p .2, p .3, p .4, p .5, p .6, p .7, c .before .before .if1 .taken, p .8, p .9, p .10)
 
 same-length : tie.Need-same-length
 same-length c = search needs
@@ -42,13 +42,13 @@ returns-2 : tie.Need-returns-2
 returns-2 c =
     let p = c .before .before .before .before .before .before .before .before .before .before .before .before .before .before .before .before .before .pre in
     let (look, kept) = c .before .before .before .before .rest-on .ensures in
-    (λ g. rw (self-axis _ (c .before .before .before .before .before .before .before .before .before .before .before .if1 .left), c .before .before .before .before .before .before .before .before .before .label .given .1) (name-looked (look _ g _ _ (p .6) (p .11) at-name)), kept)
+    (λ g. rw (self-axis _ (c .before .before .before .before .before .before .before .before .before .before .before .if1 .left), c .before .before .before .before .before .before .before .before .before .label .given .1) (name-looked (look _ g _ _ (p .6) (p .10) at-name)), kept)
 
 returns-3 : tie.Need-returns-3
 returns-3 c = (λ g. rw (self-axis _ (c .before .before .before .before .if1 .left), c .before .before .label .given .1) (name-passed (λ e. c .if2 .left (sym e))), kept-none _)
 
 stay-requires : tie.Need-stay-requires
-stay-requires c κs = let p = c .before .before .before .before .before .before .before .before .before .pre in (p .1, p .2, p .3, p .4, p .5, p .6, p .7, p .11)
+stay-requires c κs = let p = c .before .before .before .before .before .before .before .before .before .pre in (p .1, p .2, p .3, p .4, p .5, p .6, p .7, p .10)
 
 same-length-5 : tie.Need-same-length-5
 same-length-5 c = search needs
@@ -60,7 +60,7 @@ returns-4 : tie.Need-returns-4
 returns-4 c =
     let x = c .before .before .before .before .before .before .before .before .before .before .before .before .before .before in
     let (look, kept) = c .before .before .before .before .stay .ensures in
-    (λ g. rw (self-axis _ (c .before .before .before .before .before .before .before .before .if1 .left)) (look _ g _ (x .pre .10) (nameless (x .args .step .label) (c .before .before .before .before .before .before .before .match .keys2)) as-step), kept)
+    (λ g. rw (self-axis _ (c .before .before .before .before .before .before .before .before .if1 .left)) (look _ g _ (x .pre .9) (nameless (x .args .step .label) (c .before .before .before .before .before .before .before .match .keys2)) as-step), kept)
 
 pub ask-step-spec : {M : Type 1} → statement M
 ask-step-spec =

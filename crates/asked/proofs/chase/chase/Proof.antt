@@ -11,17 +11,18 @@ use Rattle.asked.specs.Chase.{Chased}
 use Rattle.asked.proofs.Marking.{marks-on-long}
 use Rattle.asked.proofs.LowBits.{same-long}
 use Rattle.asked.proofs.Fit.{marks-on-fit}
-use Rattle.asked.proofs.Serving.{aside-none, aside-then, threads-kept, picked-now, turn-falls}
+use Rattle.fewest.proofs.Keeping.{threads-kept}
+use Rattle.asked.proofs.Serving.{aside-none, aside-then, picked-now, turn-falls}
 use Rattle.asked.proofs.Chasing.{chased-aside, chased-then}
 use Rattle.asked.proofs.chase.chase.Statement.{statement}
 use Rattle.asked.proofs.chase.chase.Tie as tie
 
 abbrev Inv-loop : tie.InvT-loop
-Inv-loop site words triples rule starts count up role first numbers start asked₀ ends₀ tail₀ head₀ t₀ asked ends tail head t =
+Inv-loop site triples rule starts count up role first numbers start asked₀ ends₀ tail₀ head₀ t₀ asked ends tail head t =
     Chased site triples rule up role first (pairs numbers) asked₀ ends₀ asked ends × Picked count head tail asked asked t
 
 abbrev μ-loop : tie.MeasureT-loop
-μ-loop site words triples rule starts count up role first numbers start asked₀ ends₀ tail₀ head₀ t₀ asked ends tail head t =
+μ-loop site triples rule starts count up role first numbers start asked₀ ends₀ tail₀ head₀ t₀ asked ends tail head t =
     most + 1 - head + blank (serveds asked)
 
 clear-waiting-requires : tie.Need-clear-waiting-requires Inv-loop μ-loop
@@ -46,7 +47,7 @@ ask-at-requires c κs =
     let begins = aside-then (c .before .before .before .before .before .before .before .before .before .before .before .before .before .before .before .clear-waiting .ensures) (aside-then (c .before .before .before .before .before .before .before .before .before .before .before .push .ensures) (c .before .before .before .before .before .before .before .pick .ensures .aside)) in
     let chased = chased-then (chased-aside begins) (c .before .before .before .before .loop .inv .0) in
     let (whole, ends) = marks-on-fit (chased .reached anywhere) (p .2, p .3) in
-    (p .0, p .1, whole, ends, c .before .before .before .loop-test .taken, threads-kept (p .0 .good) (chased .below) (p .5), p .6)
+    (p .0, p .1, whole, ends, c .before .before .before .loop-test .taken, threads-kept (p .0 .good) (chased .below) (p .5))
 
 pick-requires-2 : tie.Need-pick-requires-2 Inv-loop μ-loop
 pick-requires-2 c κs =

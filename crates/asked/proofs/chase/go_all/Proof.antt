@@ -18,7 +18,8 @@ use Rattle.asked.specs.Serve.{Kept}
 use Rattle.asked.proofs.Marking.{marking-long, marking-grows}
 use Rattle.asked.proofs.LowBits.{same-long}
 use Rattle.asked.proofs.Fit.{marking-fit}
-use Rattle.asked.proofs.Serving.{kept-none, kept-then, threads-kept}
+use Rattle.fewest.proofs.Keeping.{threads-kept}
+use Rattle.asked.proofs.Serving.{kept-none, kept-then}
 use Rattle.asked.proofs.Going.{Gone, goes-along, gone-none, gone-more, gone-all}
 use Rattle.asked.proofs.chase.go_all.Statement.{statement}
 use Rattle.asked.proofs.chase.go_all.Tie as tie

@@ -1,14 +1,12 @@
--- `asked::chase::stay` meets its contract: the words tell whether the term is in the vocabulary.
+-- `asked::chase::stay` meets its contract: the threads tell whether the term is in the vocabulary.
 use borrow.Author.Needs.{needs}
-use Rattle.meaning.specs.Limits.{terms}
 use Rattle.asked.proofs.Serving.{kept-none}
 use Rattle.asked.proofs.ByMoves.{word-looked, word-passed}
 use Rattle.asked.proofs.chase.stay.Statement.{statement}
 use Rattle.asked.proofs.chase.stay.Tie as tie
 
-element-copy-out-if1 : tie.Need-element-copy-out-if1
-unfolding terms
-element-copy-out-if1 c = c .before .before .before .pre .5
+word-requires : tie.Need-word-requires
+word-requires c κs = search needs
 
 rest-on-requires : tie.Need-rest-on-requires
 rest-on-requires c κs = search needs
@@ -21,20 +19,24 @@ same-length-2 c = search needs
 
 returns : tie.Need-returns
 returns c =
-    let p = c .before .before .before .before .before .before .before .before .before .before .before .before .pre in
+    let p = c .before .before .before .before .before .before .before .before .before .before .before .before .before .pre in
     let (look, kept) = c .before .before .before .before .rest-on .ensures in
-    (word-looked (p .5) (p .7) (c .before .before .before .before .before .before .before .if1 .taken) look, kept)
+    (word-looked (p .5) (p .7) (c .before .before .before .before .before .before .before .before .word .ensures) (c .before .before .before .before .before .before .before .if1 .taken) look, kept)
+
+same-length-3 : tie.Need-same-length-3
+same-length-3 c = search needs
 
 returns-2 : tie.Need-returns-2
-returns-2 c = let p = c .before .before .before .before .before .pre in (word-passed (p .5) (p .7) (c .if1 .left), kept-none _)
+returns-2 c = let p = c .before .before .before .before .before .before .pre in (word-passed (p .5) (p .7) (c .before .word .ensures) (c .if1 .left), kept-none _)
 
 pub stay-spec : {M : Type 1} → statement M
 stay-spec =
     tie.close
     (tie.spec
-    element-copy-out-if1
+    word-requires
     rest-on-requires
     same-length
     same-length-2
     returns
+    same-length-3
     returns-2)

@@ -7,7 +7,7 @@ use borrow.Author.Needs.{needs}
 use Rattle.meaning.specs.Fewest.{anywhere}
 use Rattle.asked.specs.Seek.{Whole}
 use Rattle.asked.proofs.Fit.{marks-on-fit}
-use Rattle.asked.proofs.Serving.{threads-kept}
+use Rattle.fewest.proofs.Keeping.{threads-kept}
 use Rattle.asked.proofs.Beginning.{cleared-whole, begun-fit, begun-marks, none-answered, chased-from}
 use Rattle.asked.proofs.spread.ask.Statement.{statement}
 use Rattle.asked.proofs.spread.ask.Tie as tie
@@ -34,7 +34,7 @@ chase-requires c κs =
     let (freed, cells) = c .before .before .before .before .before .before .before .before .before .before .before .before .free .ensures in
     let (one, kept) = c .before .before .before .before .mark .ensures in
     let (whole, ends) = begun-fit (length (x .args .ends .now)) freed (c .before .before .before .before .before .before .before .before .clear-row .ensures) one in
-    (p .0, p .1, whole, ends, p .4, threads-kept (p .0 .good) (λ i h. kept .below i h ∙ ap (λ l. getD l i 0) cells) (p .6), p .5)
+    (p .0, p .1, whole, ends, p .4, threads-kept (p .0 .good) (λ i h. kept .below i h ∙ ap (λ l. getD l i 0) cells) (p .5))
 
 narrow-requires : tie.Need-narrow-requires
 narrow-requires c κs = tt

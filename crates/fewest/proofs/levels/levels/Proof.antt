@@ -28,10 +28,10 @@ returns c =
     let after-orders = after-search-all .before .before .before .before .before in
     let after-sizes = after-orders .before .before .before .before in
     let after-thread = after-sizes .before .before .before .before in
-    let few = after-thread .before .before .before .before .before .before .pre .0 .good .few in
+    let good = after-thread .before .before .before .before .before .before .pre .0 .good in
     let searched = after-search-all .search-all .ensures in
     let kept = kept-then (kept-then (after-sizes .sizes .ensures) (after-orders .orders .ensures)) (searched .scratch) in
-    (searched .numbers, threads-kept few kept _ (after-thread .thread .ensures))
+    (searched .numbers, threads-kept good (kept .same) (after-thread .thread .ensures))
 
 pub levels-spec : {M : Type 1} → statement M
 levels-spec =
