@@ -8,6 +8,7 @@ pub mod Admitting
 pub mod Admits
 pub mod Evaluation
 pub mod TermTables
+pub mod Standing
 pub mod Fitting
 pub mod Listing
 pub mod Noting

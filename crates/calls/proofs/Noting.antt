@@ -12,12 +12,11 @@ use Rattle.meaning.proofs.Counting.{count-same}
 use Rattle.records.specs.declared.Triple.{Triple}
 use Rattle.records.specs.Sites.{tripleWidth, tripleOf, inCode, siteOf, Accepted}
 use Rattle.records.proofs.Sites.{length-siteOf, triple-siteOf}
-use Rattle.records.proofs.TermTables.{table-none, table-same, table-mark}
-use Rattle.records.proofs.Vocabulary.{Standing, standing-none, standing-more}
 use Rattle.fewest.specs.Sweep.{sum}
 use Rattle.calls.specs.Tables.{TermTable}
 use Rattle.calls.specs.Inner.{Counted}
-use Rattle.calls.proofs.TermTables.{table-count}
+use Rattle.calls.proofs.Standing.{Standing, standing-none, standing-more}
+use Rattle.calls.proofs.TermTables.{table-none, table-same, table-mark, table-count}
 
 -- the term stands in the triple
 abbrev pub Stands : meant.Triple → ℕ → Type 0

@@ -14,7 +14,6 @@ use Rattle.records.specs.declared.Refusal.{Refusal}
 use Rattle.records.specs.declared.Reason.the-variants.{TableLength}
 use Rattle.records.specs.Sites.{siteOf}
 use Rattle.records.specs.Rules.{recordsOf, refusal}
-use Rattle.records.proofs.TermTables.{table-same}
 use Rattle.fewest.specs.declared.links.Links.{Links}
 use Rattle.fewest.specs.Pairs.{pairs}
 use Rattle.fewest.specs.Table.{Full}
@@ -31,7 +30,7 @@ use Rattle.calls.specs.Inner.{Given, TurnedAway, Sound-query, Listed}
 use Rattle.calls.specs.Promise.{Form, as-words, as-bytes, Fits, Started, refused, found}
 use Rattle.calls.proofs.Admits.{turned-refuses-end, refuses-as, admits-as, given-last, given-admits-end}
 use Rattle.calls.proofs.NumbersLeft.{settled-table}
-use Rattle.calls.proofs.TermTables.{table-count}
+use Rattle.calls.proofs.TermTables.{table-same, table-count}
 
 -- A row that is told in bits tells where it has a number.
 pub told-table : {T : List ℕ} {r : ℕ} {b : List ℕ} → Told T r terms b → TermTable (λ t. view T r t < none) b

@@ -3,7 +3,7 @@
 use Prim.Native.Nat.{ℕ, _*_, _<_, _≤_}
 use mathlib.Core.Path.{_≡_}
 use mathlib.Core.List.{List, [], _∷_}
-use lib.ListN.{length}
+use lib.ListN.{length, getD}
 use Rattle.meaning.specs.Limits.{terms, records, none}
 use Rattle.meaning.specs.Site.{Site}
 use Rattle.meaning.specs.Expression.{Expr, size}
@@ -11,8 +11,11 @@ use Rattle.meaning.specs.Path.{Path}
 use Rattle.meaning.specs.Fewest.{Goal, Numbers}
 use Rattle.meaning.specs.Question.{question, Asks, Tells}
 use Rattle.fewest.specs.Offer.{view}
+
 -- 1 at each term with P and 0 elsewhere
-pub use Rattle.records.specs.Words.{TermTable}
+pub record TermTable (P : ℕ → Type 0) (b : List ℕ) : Type 0 where
+  pub long : length b ≡ terms
+  pub tells : (u : ℕ) → u < terms → Tells (P u) (getD b u 0)
 
 -- 1 for each question asked and 0 elsewhere, unused rows included
 pub record QuestionTable (s : Site) (rule : Expr) (z : ℕ) (b : List ℕ) : Type 0 where

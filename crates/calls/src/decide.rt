@@ -12,18 +12,17 @@ use asked::spread::ask;
 use fewest::Goal;
 use fewest::sweep::fill;
 use fewest::table::number;
-use fewest::threads::thread;
 use records::NONE;
 use records::RECORDS;
 use records::Reason;
 use records::Refusal;
-use records::words::words_of;
 ghost use Prim.Native.Nat.{_<_};
 ghost use mathlib.Core.Path.{_≡_};
 ghost use Rattle.meaning.specs.Limits.{terms};
 ghost use Rattle.fewest.specs.Pairs.{pairs};
 ghost use Rattle.fewest.specs.Frame.{links};
 ghost use Rattle.fewest.specs.Sweep.{sum};
+ghost use Rattle.fewest.specs.Threads.{Threads};
 ghost use Rattle.fewest.specs.Work.{goalOf};
 ghost use Rattle.asked.specs.Seek.{Bits};
 ghost use Rattle.calls.specs.Promise.{as-bytes, room-steps, Fits, RoomFits, Decided};
@@ -34,8 +33,8 @@ pub const ROOM_STEPS: usize = 1024;
 
 const ROOM_BYTES: usize = 6 * ROOM_STEPS;
 
-// The steps at the start, and the path into the room where it holds so many. The byte table is scratch until the questions are
-// asked: it holds the threads that the path goes by.
+// The steps at the start, and the path into the room where it holds so many, by the threads in the byte table, which is scratch
+// until the questions are asked.
 fn show<'a>(
     site: &[u8],
     triples: usize,
@@ -47,18 +46,17 @@ fn show<'a>(
     first: &'a [u8; RECORDS],
     start: usize,
     end: usize,
-    scratch: &mut [u8],
+    scratch: &[u8],
     numbers: &[u8],
     room: &mut [u8],
 ) -> usize
-    requires { ⌜ Given (now site) (now rule) triples records (now starts) (links (now up) (now role) (now first)) × Numbered (now site) triples (now rule) (now up) (now role) (now first) (goalOf (Goal.End end)) (pairs (now numbers)) × (start < terms) × Fits as-bytes (now scratch) (now numbers) × RoomFits as-bytes (now room) ⌝ }
+    requires { ⌜ Given (now site) (now rule) triples records (now starts) (links (now up) (now role) (now first)) × Numbered (now site) triples (now rule) (now up) (now role) (now first) (goalOf (Goal.End end)) (pairs (now numbers)) × (start < terms) × Fits as-bytes (now scratch) (now numbers) × RoomFits as-bytes (now room) × Threads (now site) triples (now scratch) ⌝ }
     ensures { λ k. ⌜ Displayed as-bytes (now (site .entry)) triples (now (rule .entry)) records (links (now (up .entry)) (now (role .entry)) (now (first .entry))) (goalOf (Goal.End end)) (pairs (now (numbers .entry))) start room-steps (now (room .entry)) (now (room .exit)) k ⌝ }
 {
     let steps = number(numbers, records - 1, start);
     if ROOM_STEPS < steps {
         return steps;
     }
-    thread(site, triples, scratch);
     write_bytes(
         site,
         scratch,
@@ -123,7 +121,6 @@ fn answer<'a>(
     requires { ⌜ Given (now site) (now rule) triples records (now starts) (links (now up) (now role) (now first)) × (start < terms) × (end < terms) × Fits as-bytes (now asked) (now numbers) × RoomFits as-bytes (now room) ⌝ }
     ensures { λ d. ⌜ Decided as-bytes (now (site .entry)) (now (rule .entry)) start end (now (asked .entry)) (now (numbers .entry)) (now (room .entry)) (now (asked .exit)) (now (numbers .exit)) (now (room .exit)) d ⌝ }
 {
-    let words = words_of(site, triples);
     fill(
         site,
         triples,
@@ -154,7 +151,6 @@ fn answer<'a>(
     );
     ask(
         site,
-        &words,
         triples,
         rule,
         starts,

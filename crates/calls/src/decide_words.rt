@@ -12,12 +12,10 @@ use asked::spread::ask;
 use fewest::Goal;
 use fewest::sweep::fill;
 use fewest::table::number;
-use fewest::threads::thread;
 use records::NONE;
 use records::RECORDS;
 use records::Reason;
 use records::Refusal;
-use records::words::words_of;
 ghost use Prim.Native.Nat.{_<_};
 ghost use mathlib.Core.Path.{_≡_};
 ghost use lib.ListN.{length};
@@ -25,6 +23,7 @@ ghost use Rattle.meaning.specs.Limits.{terms};
 ghost use Rattle.fewest.specs.Pairs.{pairs};
 ghost use Rattle.fewest.specs.Frame.{links};
 ghost use Rattle.fewest.specs.Table.{Full};
+ghost use Rattle.fewest.specs.Threads.{Threads};
 ghost use Rattle.fewest.specs.Work.{goalOf};
 ghost use Rattle.asked.specs.Seek.{Whole};
 ghost use Rattle.calls.specs.Promise.{as-words, Fits, Decided};
@@ -44,11 +43,11 @@ fn show_words<'a>(
     start: usize,
     end: usize,
     most: usize,
-    scratch: &mut [u8],
+    scratch: &[u8],
     bytes: &[u8],
     room: &mut [u16],
 ) -> usize
-    requires { ⌜ Given (now site) (now rule) triples records (now starts) (links (now up) (now role) (now first)) × Numbered (now site) triples (now rule) (now up) (now role) (now first) (goalOf (Goal.End end)) (pairs (now bytes)) × (start < terms) × Whole (now scratch) × Full (now bytes) × Roomy as-words most (now room) ⌝ }
+    requires { ⌜ Given (now site) (now rule) triples records (now starts) (links (now up) (now role) (now first)) × Numbered (now site) triples (now rule) (now up) (now role) (now first) (goalOf (Goal.End end)) (pairs (now bytes)) × (start < terms) × Threads (now site) triples (now scratch) × Full (now bytes) × Roomy as-words most (now room) ⌝ }
     ensures { λ k. ⌜ Displayed as-words (now (site .entry)) triples (now (rule .entry)) records (links (now (up .entry)) (now (role .entry)) (now (first .entry))) (goalOf (Goal.End end)) (pairs (now (bytes .entry))) start most (now (room .entry)) (now (room .exit)) k ⌝ }
 {
     let steps = number(bytes, records - 1, start);
@@ -58,7 +57,6 @@ fn show_words<'a>(
     if most < steps {
         return steps;
     }
-    thread(site, triples, scratch);
     write_words(
         site,
         scratch,
@@ -100,7 +98,6 @@ fn answer_words<'a>(
     ensures { λ d. ⌜ Decided as-words (now (site .entry)) (now (rule .entry)) start end (now (asked .entry)) (now (numbers .entry)) (now (room .entry)) (now (asked .exit)) (now (numbers .exit)) (now (room .exit)) d ⌝ }
 {
     let most = room.len() / 3;
-    let words = words_of(site, triples);
     fill(
         site,
         triples,
@@ -132,7 +129,6 @@ fn answer_words<'a>(
     );
     ask(
         site,
-        &words,
         triples,
         rule,
         starts,

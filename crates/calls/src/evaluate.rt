@@ -4,7 +4,6 @@ use asked::spread::ask;
 use fewest::Goal;
 use fewest::sweep::fill;
 use records::RECORDS;
-use records::words::words_of;
 ghost use Prim.Native.Nat.{_<_};
 ghost use lib.ListN.{length};
 ghost use Rattle.meaning.specs.Limits.{terms};
@@ -31,7 +30,6 @@ pub fn evaluate<'a>(
     requires { ⌜ Ready (now site) triples (now rule) (now starts) count (now up) (now role) (now first) × Full (now numbers) × Whole (now asked) × (0 < count) × (start < terms) ⌝ }
     ensures { λ _. ⌜ Evaluated (now (site .entry)) triples (now (rule .entry)) (now (up .entry)) (now (role .entry)) (now (first .entry)) (goalOf goal) start (length (now (ends .entry))) (now (asked .exit)) (now (numbers .exit)) (now (ends .exit)) ⌝ }
 {
-    let words = words_of(site, triples);
     fill(
         site,
         triples,
@@ -47,7 +45,6 @@ pub fn evaluate<'a>(
     );
     ask(
         site,
-        &words,
         triples,
         rule,
         starts,

@@ -4,8 +4,6 @@ pub mod Numbers
 pub mod SiteRecord
 pub mod Sites
 pub mod Parts
-pub mod TermTables
-pub mod Vocabulary
 pub mod Readers
 pub mod ReaderParts
 pub mod Subjects

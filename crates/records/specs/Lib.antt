@@ -3,7 +3,6 @@ pub mod Refusals
 pub mod Bytes
 pub mod Sites
 pub mod Reader
-pub mod Words
 pub mod Rules
 pub mod First
 pub mod Queries

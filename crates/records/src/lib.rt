@@ -3,7 +3,6 @@
 pub mod bytes; // bytes.rt: numbers as they stand in bytes
 pub mod site; // site.rt: site records, their reader, whole sites
 pub mod rule; // rule.rt: rule records, whole rules, the first record of an expression
-pub mod words; // words.rt: the vocabulary as a table
 pub mod query; // query.rt: the terms of a query
 
 ghost use mathlib.Core.Path.{_≡_};

@@ -2,8 +2,8 @@
 -- The measure is what is left of the triples.
 use Prim.Native.Nat.{_≤_, _-_}
 use native.Mathlib.Omega.{arith}
-use Rattle.records.proofs.Vocabulary.{Standing}
 use Rattle.calls.specs.Tables.{TermTable}
+use Rattle.calls.proofs.Standing.{Standing}
 use Rattle.calls.proofs.Noting.{Stands, noted-none, triple-terms, noted-more, noted-all}
 use Rattle.calls.proofs.ceiling.note.Statement.{statement}
 use Rattle.calls.proofs.ceiling.note.Tie as tie
