@@ -10,7 +10,7 @@ use lib.ListN.{length}
 use lib.Dec.{eqb}
 use borrow.Author.Tests.{eq-eqb, ne-eqb}
 use Rattle.meaning.specs.Limits.{terms, records}
-use Rattle.path.specs.Tells.{Tells, holds, fails}
+use Rattle.fewest.specs.Tells.{Tells, holds, fails}
 use Rattle.calls.specs.Promise.{Form, lengthIn, Fits}
 
 -- Where the first two lengths are right, the third one tells.

@@ -134,7 +134,6 @@ fn answer<'a>(
         role,
         first,
         Goal::End(end),
-        &words,
         asked,
         numbers,
     );

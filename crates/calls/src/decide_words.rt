@@ -111,7 +111,6 @@ fn answer_words<'a>(
         role,
         first,
         Goal::End(end),
-        &words,
         asked,
         bytes,
     );

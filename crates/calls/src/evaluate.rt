@@ -42,7 +42,6 @@ pub fn evaluate<'a>(
         role,
         first,
         goal,
-        &words,
         asked,
         numbers,
     );

@@ -4,7 +4,7 @@ use records::TERMS;
 ghost use Prim.Native.Nat.{_*_};
 ghost use mathlib.Core.Path.{_≡_};
 ghost use Rattle.meaning.specs.Limits.{terms, records};
-ghost use Rattle.path.specs.Tells.{Tells};
+ghost use Rattle.fewest.specs.Tells.{Tells};
 
 // The entries of a table by record and term, and its bytes where each takes two.
 pub const ENTRIES: usize = RECORDS * TERMS;

@@ -15,7 +15,6 @@ use records::RECORDS;
 use records::Reason;
 use records::Refusal;
 use records::TERMS;
-use records::words::words_of;
 ghost use mathlib.Core.Path.{_≡_};
 ghost use lib.ListN.{length};
 ghost use Rattle.meaning.specs.Limits.{terms};
@@ -43,7 +42,6 @@ fn list<'a>(
     requires { ⌜ Given (now site) (now rule) triples records (now starts) (links (now up) (now role) (now first)) × Full (now numbers) × Whole (now asked) × (length (now third) ≡ terms) ⌝ }
     ensures { λ k. ⌜ Listed (now (site .entry)) triples (now (rule .entry)) records (now (up .entry)) (now (role .entry)) (now (first .entry)) end (now (asked .exit)) (now (numbers .exit)) (now (third .exit)) k ⌝ }
 {
-    let words = words_of(site, triples);
     fill(
         site,
         triples,
@@ -54,7 +52,6 @@ fn list<'a>(
         role,
         first,
         Goal::End(end),
-        &words,
         asked,
         numbers,
     );

@@ -15,6 +15,7 @@ pub mod Axes
 pub mod Looks
 pub mod Loops
 pub mod Rowwise
+pub mod Tells
 pub mod Resting
 pub mod ByTriples
 pub mod ByRecords
@@ -24,4 +25,5 @@ pub mod Readiness
 pub mod Telling
 pub mod Hints
 pub mod Threading
+pub mod Words
 pub mod Keeping

@@ -1,12 +1,11 @@
 -- A record's row is lowered by staying: at each vocabulary term, for an empty round or a self without a name, or at a name.
--- The words tell which terms these are, so each term seen, every one of them was seen.
+-- Each term seen and told whether it is a vocabulary term, every one of these was seen.
 use Prim.Native.Nat.{ℕ, _*_, _<_, _≤_}
 use mathlib.Core.Path.{_≡_}
-use mathlib.Core.Logic.{_≢_, _⊎_, ⊎-elim}
+use mathlib.Core.Logic.{_⊎_, ⊎-elim}
 use mathlib.Core.Bool.{Bool, true, false, cond}
 use mathlib.Core.List.{List, [], _∷_}
 use native.Mathlib.Omega.{arith}
-use lib.ListN.{getD}
 use lib.Dec.{eqb}
 use denote.Enum.Declared.{tagOf}
 use types.Run.{OneOf}
@@ -18,13 +17,14 @@ use Rattle.records.specs.declared.Triple.{Triple}
 use Rattle.records.specs.declared.Label.{Label}
 use Rattle.records.specs.declared.Label.the-variants.{Any, Term, Test}
 use Rattle.records.specs.Sites.{siteOf, tripleOf, tripleWidth, inCode}
-use Rattle.records.specs.Words.{WordsOf}
 use Rattle.records.proofs.Label.{the-type}
 use Rattle.records.proofs.Sites.{length-siteOf, triple-siteOf}
 use Rattle.fewest.specs.Frame.{Frame, frame}
 use Rattle.fewest.specs.Offer.{Work, stepping, resting, Offer, by-step, by-test, by-rest, Lowers, Quiet}
 use Rattle.fewest.specs.Sweep.{sum}
 use Rattle.fewest.specs.Work.{workOf, staying as stayingBy, Looks, QuietAt, at-word, Rested, Nameless, WorkSwept}
+use Rattle.fewest.specs.Tells.{Tells}
+use Rattle.fewest.proofs.Tells.{told, told-not}
 use Rattle.fewest.proofs.Sweeps.{lowers-chain, swept-none, swept-weaken}
 use Rattle.fewest.proofs.Loops.{Seen}
 
@@ -59,16 +59,16 @@ at-words Test false free (by-test (staying x) h c) = x .rests
 abbrev pub AtWord : Frame → Work → ℕ → ℕ → List ℕ → Type 0
 AtWord F w r t X = meant.Voc (F .site) t → QuietAt F w r t X
 
-module _ {s : meant.Site} {words : List ℕ} (of : WordsOf s words) {t : ℕ} (h : t < terms) {up role : List ℕ} {g : Goal} where
+module _ {s : meant.Site} {t : ℕ} {is-word : Bool} (tells : Tells (meant.Voc s t) is-word) {up role : List ℕ} {g : Goal} where
   -- A vocabulary term was looked at,
-  pub word-looked : (l : Label) (cost : ℕ) {r : ℕ} {T U : List ℕ} {was now : Bool} → getD words t 0 ≡ 1 → (cost ≡ 0 → l ≡ Any) →
+  pub word-looked : (l : Label) (cost : ℕ) {r : ℕ} {T U : List ℕ} {was now : Bool} → is-word ≡ true → (cost ≡ 0 → l ≡ Any) →
       Rested up role g l cost r t T U was now → Looks (frame s up role g) (stayingBy cost l) r (AtWord (frame s up role g) (stayingBy cost l) r t) T U was now
-  word-looked l cost e any p = swept-weaken (λ quiet v. quiet) (p s (at-word (of .tells t h .exactly .0 e)) any)
+  word-looked l cost e any p = swept-weaken (λ quiet v. quiet) (p s (at-word (told tells e)) any)
 
   -- and at another nothing is to be seen.
-  pub word-passed : (w : Work) {r : ℕ} {T : List ℕ} {was : Bool} → getD words t 0 ≢ 1 →
+  pub word-passed : (w : Work) {r : ℕ} {T : List ℕ} {was : Bool} → is-word ≡ false →
       Looks (frame s up role g) w r (AtWord (frame s up role g) w r t) T T was was
-  word-passed w other = swept-none lowers-chain (λ v. absurd (other (of .tells t h .exactly .1 v)))
+  word-passed w e = swept-none lowers-chain (λ v. absurd (told-not tells e v))
 
 -- Each term seen, staying was looked at wherever it is offered.
 pub words-swept : {F : Frame} (l : Label) (cost : ℕ) {r k : ℕ} {T U : List ℕ} {was now : Bool} → terms ≤ k → Nameless l →

@@ -12,4 +12,6 @@ pub mod Told
 pub mod Sweep
 pub mod Work
 pub mod Threads
+pub mod Tells
+pub mod Words
 pub mod Kept

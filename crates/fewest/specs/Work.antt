@@ -19,7 +19,6 @@ use Rattle.records.specs.declared.Step.{Step}
 use Rattle.records.specs.declared.Record.{Record}
 use Rattle.records.specs.declared.Record.the-variants as kind
 use Rattle.records.specs.Sites.{subjectPart, predicatePart, objectPart, termAt, Accepted, siteOf}
-use Rattle.records.specs.Words.{WordsOf}
 use Rattle.records.specs.Rules.{lastAxis, axisNumbered, recOf, recordAt, recAt, recordsOf}
 use Rattle.fewest.specs.declared.Goal.{Goal}
 use Rattle.fewest.specs.declared.Goal.the-variants.{End, Anywhere}
@@ -128,10 +127,10 @@ Nameless Test = Unit
 abbrev pub WorkSwept : Frame → Work → ℕ → List ℕ → List ℕ → Bool → Bool → Type 0
 WorkSwept F w r T T′ was now = Swept sum (Lowers F w r) (Quiet F w r) T T′ was now
 
--- staying at each vocabulary term was looked at, where the words are the site's
-abbrev pub RestsSwept : List ℕ → List ℕ → List ℕ → meaning.Goal → Label → ℕ → ℕ → List ℕ → List ℕ → Bool → Bool → Type 0
-RestsSwept words up role g l cost r T T′ was now =
-    (s : meant.Site) → WordsOf s words → Nameless l → (cost ≡ 0 → l ≡ Any) → WorkSwept (frame s up role g) (staying cost l) r T T′ was now
+-- staying at each vocabulary term was looked at
+abbrev pub RestsSwept : List ℕ → ℕ → List ℕ → List ℕ → meaning.Goal → Label → ℕ → ℕ → List ℕ → List ℕ → Bool → Bool → Type 0
+RestsSwept b n up role g l cost r T T′ was now =
+    Nameless l → (cost ≡ 0 → l ≡ Any) → WorkSwept (frame (siteOf b n) up role g) (staying cost l) r T T′ was now
 
 abbrev pub AxisSwept : List ℕ → ℕ → Step → List ℕ → List ℕ → meaning.Goal → ℕ → List ℕ → List ℕ → Bool → Bool → Type 0
 AxisSwept b n x up role g r T T′ was now =

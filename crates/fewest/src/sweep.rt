@@ -6,6 +6,7 @@ use crate::look::parts_of;
 use crate::look::rest;
 use crate::table::lower;
 use crate::table::number;
+use crate::word::word;
 use records::Label;
 use records::RECORDS;
 use records::Record;
@@ -13,11 +14,11 @@ use records::Step;
 use records::TERMS;
 use records::rule::record_of;
 ghost use mathlib.Core.Path.{_≡_};
-ghost use Prim.Native.Nat.{_*_, _<_};
+ghost use Prim.Native.Nat.{ℕ, _*_, _<_};
+ghost use mathlib.Core.List.{List};
 ghost use lib.ListN.{length, replicate};
 ghost use Rattle.meaning.specs.Limits.{terms, records, none};
-ghost use Rattle.records.specs.Sites.{Accepted, siteOf};
-ghost use Rattle.records.specs.Words.{WordsOf};
+ghost use Rattle.records.specs.Sites.{Accepted};
 ghost use Rattle.fewest.specs.Pairs.{pairs};
 ghost use Rattle.fewest.specs.Frame.{Climbs};
 ghost use Rattle.fewest.specs.Table.{Full};
@@ -41,7 +42,8 @@ fn sweep_row(numbers: &mut [u8], r: usize, a: usize, was: bool) -> bool
 
 // Staying at each vocabulary term, for record r.
 fn sweep_rests<'a>(
-    words: &[u8; TERMS],
+    scratch: &[u8],
+    triples: usize,
     up: &'a [u8; RECORDS],
     role: &'a [u8; RECORDS],
     goal: Goal,
@@ -52,12 +54,12 @@ fn sweep_rests<'a>(
     was: bool,
 ) -> bool
     requires { ⌜ Full (now numbers) × Climbs records (now up) (now role) × (r < records) × Tests label r × (cost < 2) ⌝ }
-    ensures { λ changed. ⌜ RestsSwept (now (words .entry)) (now (up .entry)) (now (role .entry)) (goalOf goal) label cost r (pairs (now (numbers .entry))) (pairs (now (numbers .exit))) was changed ⌝ }
+    ensures { λ changed. ⌜ ((s : List ℕ) → Threads s triples (now (scratch .entry)) → RestsSwept s triples (now (up .entry)) (now (role .entry)) (goalOf goal) label cost r (pairs (now (numbers .entry))) (pairs (now (numbers .exit))) was changed) ⌝ }
 {
     let mut changed = was;
     let mut t = 0;
     while t < TERMS {
-        if words[t] == 1 {
+        if word(scratch, triples, t) {
             changed = rest(up, role, goal, numbers, label, cost, r, t, changed);
         }
         t += 1;
@@ -94,7 +96,7 @@ pub fn sweep_axis<'a>(
 // The step of record r, whatever its axis: self stays, at its named term or at each vocabulary term.
 fn sweep_step<'a>(
     site: &[u8],
-    words: &[u8; TERMS],
+    scratch: &[u8],
     triples: usize,
     step: Step,
     up: &'a [u8; RECORDS],
@@ -104,7 +106,7 @@ fn sweep_step<'a>(
     r: usize,
     was: bool,
 ) -> bool
-    requires { ⌜ Accepted (now site) triples × Full (now numbers) × Climbs records (now up) (now role) × (r < records) × Tests (step .label) r × WordsOf (siteOf (now site) triples) (now words) ⌝ }
+    requires { ⌜ Accepted (now site) triples × Full (now numbers) × Climbs records (now up) (now role) × (r < records) × Tests (step .label) r × Threads (now site) triples (now scratch) ⌝ }
     ensures { λ changed. ⌜ StepSwept (now (site .entry)) triples step (now (up .entry)) (now (role .entry)) (goalOf goal) r (pairs (now (numbers .entry))) (pairs (now (numbers .exit))) was changed ⌝ }
 {
     if step.axis != 0 {
@@ -114,13 +116,13 @@ fn sweep_step<'a>(
     if let Label::Term(term) = label {
         return rest(up, role, goal, numbers, label, 1, r, term, was);
     }
-    sweep_rests(words, up, role, goal, numbers, label, 1, r, was)
+    sweep_rests(scratch, triples, up, role, goal, numbers, label, 1, r, was)
 }
 
 // The row of record r, by its record; `first` is the record of a join's first operand.
 fn sweep_record<'a>(
     site: &[u8],
-    words: &[u8; TERMS],
+    scratch: &[u8],
     triples: usize,
     rec: Record,
     first: usize,
@@ -131,13 +133,13 @@ fn sweep_record<'a>(
     r: usize,
     was: bool,
 ) -> bool
-    requires { ⌜ Accepted (now site) triples × Full (now numbers) × Climbs records (now up) (now role) × (r < records) × Sits rec r × (first < records) × WordsOf (siteOf (now site) triples) (now words) ⌝ }
+    requires { ⌜ Accepted (now site) triples × Full (now numbers) × Climbs records (now up) (now role) × (r < records) × Sits rec r × (first < records) × Threads (now site) triples (now scratch) ⌝ }
     ensures { λ changed. ⌜ RecordSwept (now (site .entry)) triples rec first (now (up .entry)) (now (role .entry)) (goalOf goal) r (pairs (now (numbers .entry))) (pairs (now (numbers .exit))) was changed ⌝ }
 {
     match rec {
         Record::Step(step) => sweep_step(
             site,
-            words,
+            scratch,
             triples,
             step,
             up,
@@ -154,7 +156,18 @@ fn sweep_record<'a>(
         }
         Record::Star => {
             let one = sweep_row(numbers, r, r - 1, was);
-            sweep_rests(words, up, role, goal, numbers, Label::Any, 0, r, one)
+            sweep_rests(
+                scratch,
+                triples,
+                up,
+                role,
+                goal,
+                numbers,
+                Label::Any,
+                0,
+                r,
+                one,
+            )
         }
     }
 }
@@ -162,7 +175,7 @@ fn sweep_record<'a>(
 // Every row once. False where nothing changed.
 fn sweep<'a>(
     site: &[u8],
-    words: &[u8; TERMS],
+    scratch: &[u8],
     triples: usize,
     rule: &[u8],
     starts: &[u8; RECORDS],
@@ -173,7 +186,7 @@ fn sweep<'a>(
     goal: Goal,
     numbers: &mut [u8],
 ) -> bool
-    requires { ⌜ Ready (now site) triples (now rule) (now starts) count (now up) (now role) (now first) × Full (now numbers) × WordsOf (siteOf (now site) triples) (now words) ⌝ }
+    requires { ⌜ Ready (now site) triples (now rule) (now starts) count (now up) (now role) (now first) × Full (now numbers) × Threads (now site) triples (now scratch) ⌝ }
     ensures { λ changed. ⌜ SweptOver (now (site .entry)) triples (now (rule .entry)) (now (up .entry)) (now (role .entry)) (now (first .entry)) (goalOf goal) (pairs (now (numbers .entry))) (pairs (now (numbers .exit))) changed ⌝ }
 {
     let mut changed = false;
@@ -183,7 +196,7 @@ fn sweep<'a>(
         let operand = first[r] as usize;
         changed = sweep_record(
             site,
-            words,
+            scratch,
             triples,
             rec,
             operand,
@@ -202,7 +215,7 @@ fn sweep<'a>(
 // Sweeps until one changes nothing.
 pub fn settle<'a>(
     site: &[u8],
-    words: &[u8; TERMS],
+    scratch: &[u8],
     triples: usize,
     rule: &[u8],
     starts: &[u8; RECORDS],
@@ -213,12 +226,12 @@ pub fn settle<'a>(
     goal: Goal,
     numbers: &mut [u8],
 )
-    requires { ⌜ Ready (now site) triples (now rule) (now starts) count (now up) (now role) (now first) × Full (now numbers) × WordsOf (siteOf (now site) triples) (now words) ⌝ }
+    requires { ⌜ Ready (now site) triples (now rule) (now starts) count (now up) (now role) (now first) × Full (now numbers) × Threads (now site) triples (now scratch) ⌝ }
     ensures { λ _. ⌜ SettledOver (now (site .entry)) triples (now (rule .entry)) (now (up .entry)) (now (role .entry)) (now (first .entry)) (goalOf goal) (pairs (now (numbers .entry))) (pairs (now (numbers .exit))) ⌝ }
 {
     while sweep(
         site,
-        words,
+        scratch,
         triples,
         rule,
         starts,
@@ -255,11 +268,10 @@ pub fn fill<'a>(
     role: &'a [u8; RECORDS],
     first: &'a [u8; RECORDS],
     goal: Goal,
-    words: &[u8; TERMS],
     scratch: &mut [u8],
     numbers: &mut [u8],
 )
-    requires { ⌜ Ready (now site) triples (now rule) (now starts) count (now up) (now role) (now first) × Full (now numbers) × WordsOf (siteOf (now site) triples) (now words) × (length (now scratch) ≡ records * terms) ⌝ }
+    requires { ⌜ Ready (now site) triples (now rule) (now starts) count (now up) (now role) (now first) × Full (now numbers) × (length (now scratch) ≡ records * terms) ⌝ }
     ensures { λ _. ⌜ SettledOver (now (site .entry)) triples (now (rule .entry)) (now (up .entry)) (now (role .entry)) (now (first .entry)) (goalOf goal) (replicate (records * terms) none) (pairs (now (numbers .exit))) × Threads (now (site .entry)) triples (now (scratch .exit)) ⌝ }
 {
     clear(numbers);
@@ -278,7 +290,7 @@ pub fn fill<'a>(
     );
     settle(
         site,
-        words,
+        scratch,
         triples,
         rule,
         starts,

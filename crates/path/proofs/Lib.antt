@@ -1,6 +1,4 @@
 -- Laws that belong to no one function: how records are opened, and how the smallest step is found.
-pub mod Telling
-pub mod Words
 pub mod Opening
 pub mod Climbing
 pub mod Leading

@@ -26,9 +26,9 @@ use Rattle.fewest.specs.Threads.{FirstWith, startAlong, startBy}
 use Rattle.fewest.proofs.Axes as axes
 use Rattle.path.specs.declared.Taken.{Taken}
 use Rattle.path.specs.declared.Pick.the-variants.{Step, Nothing}
-use Rattle.path.specs.Tells.{Tells, holds, fails}
+use Rattle.fewest.specs.Tells.{Tells, holds, fails}
 use Rattle.path.specs.Offers.{Suits, Stay, Smallest, found, none, Serves, SmallestBy}
-use Rattle.path.proofs.Telling.{told, told-not}
+use Rattle.fewest.proofs.Tells.{told, told-not}
 use Rattle.path.proofs.Carrying.{carries-move, move-carries, carries-stay, stay-carries, below, goes as by-triples}
 
 -- What suits one move, told by its three tests.

@@ -17,11 +17,11 @@ use Rattle.fewest.specs.Offer.{copying, worksOf}
 use Rattle.fewest.specs.Sweep.{sum, Swept}
 use Rattle.fewest.proofs.Sweeps.{Chain, swept-none, swept-then, swept-weaken, swept-lift}
 use Rattle.path.specs.declared.Stand.{Stand}
-use Rattle.path.specs.Tells.{Tells}
+use Rattle.fewest.specs.Tells.{Tells}
 use Rattle.path.specs.Pick.{Enters, begin, after, inward, past}
 use Rattle.path.specs.Flags as flags
 use Rattle.path.specs.Flags.{Open, Opens, Opening, Begins, LeadsBy, to-first, to-one, to-other, to-round, Leads, Led, Due, at-once, in-turn, Justified, Keeps, SweptOpen, Entered}
-use Rattle.path.proofs.Telling.{told, tells}
+use Rattle.fewest.proofs.Tells.{told, tells}
 
 -- the links alone tell what comes next
 relinked : {s z : Site} {g h : Goal} {up role : List ℕ} {r b : ℕ} → Next (frame s up role g) r b → Next (frame z up role h) r b

@@ -16,7 +16,7 @@ use Rattle.fewest.specs.Sweep.{sum, Swept}
 use Rattle.fewest.specs.Work.{Ready}
 use Rattle.path.specs.declared.Stand.{Stand}
 use Rattle.path.specs.declared.Stand.the-variants.{Begin, After}
-use Rattle.path.specs.Tells.{Tells}
+use Rattle.fewest.specs.Tells.{Tells}
 use Rattle.path.specs.Pick.{Enters}
 
 -- a walk stands at its beginning, or after one of the records

@@ -1,6 +1,4 @@
 -- What the path's functions promise.
-pub mod Tells
-pub mod Words
 pub mod Pick
 pub mod Flags
 pub mod Offers

@@ -18,7 +18,7 @@ use Rattle.fewest.specs.Work.{allowing}
 use Rattle.path.specs.declared.Taken.{Taken}
 use Rattle.path.specs.declared.Pick.{Pick}
 use Rattle.path.specs.declared.Pick.the-variants.{Step, Nothing}
-use Rattle.path.specs.Tells.{Tells}
+use Rattle.fewest.specs.Tells.{Tells}
 use Rattle.path.specs.Pick.{Carries, NoLater}
 use Rattle.path.specs.Flags.{Open}
 

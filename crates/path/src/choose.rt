@@ -27,7 +27,7 @@ ghost use Rattle.fewest.specs.Frame.{Climbs, frame};
 ghost use Rattle.fewest.specs.Table.{Full};
 ghost use Rattle.fewest.specs.Work.{goalOf, Tests, Ready};
 ghost use Rattle.fewest.specs.Threads.{Threads};
-ghost use Rattle.path.specs.Tells.{Tells};
+ghost use Rattle.fewest.specs.Tells.{Tells};
 ghost use Rattle.path.specs.Offers.{Suited, MayStay, SmallestBy, SmallestOf, SmallestOpen};
 
 // The move begins at t, the label of record r lets its middle pass, and d steps are left where it ends.

@@ -2,13 +2,12 @@
 // begins a shortest way.
 pub mod choose; // choose.rt: the smallest step that leaves as few as are left
 pub mod enter; // enter.rt: which records can be entered at no cost
-pub mod word; // word.rt: whether a term is in the vocabulary
 
 use choose::choose;
 use enter::enter;
 use fewest::Goal;
+use fewest::word::word;
 use records::RECORDS;
-use word::word;
 ghost use Prim.Native.Nat.{_<_};
 ghost use Rattle.meaning.specs.Limits.{terms};
 ghost use Rattle.records.specs.Sites.{siteOf};

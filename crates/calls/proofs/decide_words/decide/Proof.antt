@@ -6,8 +6,8 @@ use borrow.Author.Tests.{not-true, not-false}
 use denote.Ref.{now}
 use Rattle.meaning.specs.Limits.{terms, records}
 use Rattle.fewest.specs.Table.{Full}
-use Rattle.path.specs.Tells.{Tells}
-use Rattle.path.proofs.Telling.{told, told-not}
+use Rattle.fewest.specs.Tells.{Tells}
+use Rattle.fewest.proofs.Tells.{told, told-not}
 use Rattle.calls.specs.Promise.{as-words, Fits, RoomFits}
 use Rattle.calls.proofs.Fitting.{fitting}
 use Rattle.calls.proofs.Deciding.{decided-short, decided-turned, decided-query}

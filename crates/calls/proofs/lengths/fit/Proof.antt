@@ -1,7 +1,7 @@
 -- `calls::lengths::fit` meets its contract: each length is compared, and the first that differs says no.
 use native.Mathlib.Omega.{arith}
 use Rattle.meaning.specs.Limits.{terms, records}
-use Rattle.path.specs.Tells.{fails}
+use Rattle.fewest.specs.Tells.{fails}
 use Rattle.calls.proofs.Fitting.{third-tells}
 use Rattle.calls.proofs.lengths.fit.Statement.{statement}
 use Rattle.calls.proofs.lengths.fit.Tie as tie

@@ -9,9 +9,6 @@ use Rattle.calls.proofs.Starting.{told-table}
 use Rattle.calls.proofs.origins.list.Statement.{statement}
 use Rattle.calls.proofs.origins.list.Tie as tie
 
-words-of-requires : tie.Need-words-of-requires
-words-of-requires c κs = given-ready (c .before .before .before .before .before .pre .0) .good
-
 fill-requires : tie.Need-fill-requires
 unfolding Whole
 fill-requires c κs =
@@ -58,7 +55,6 @@ pub list-spec : {M : Type 1} → statement M
 list-spec =
     tie.close
     (tie.spec
-    words-of-requires
     fill-requires
     sub-tell
     tell-requires

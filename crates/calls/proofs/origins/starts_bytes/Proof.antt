@@ -8,8 +8,8 @@ use denote.Ref.{now}
 use Rattle.meaning.specs.Limits.{terms, records}
 use Rattle.fewest.specs.Table.{Full}
 use Rattle.asked.specs.Seek.{Whole}
-use Rattle.path.specs.Tells.{Tells}
-use Rattle.path.proofs.Telling.{told, told-not}
+use Rattle.fewest.specs.Tells.{Tells}
+use Rattle.fewest.proofs.Tells.{told, told-not}
 use Rattle.calls.specs.Promise.{as-bytes, Fits}
 use Rattle.calls.proofs.Fitting.{fitting}
 use Rattle.calls.proofs.Starting.{starts-short, starts-turned, starts-listed}

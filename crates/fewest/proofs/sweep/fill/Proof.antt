@@ -11,15 +11,15 @@ clear-requires c κs = search needs
 
 levels-requires : tie.Need-levels-requires
 unfolding Full
-levels-requires c κs = let pre = c .before .before .before .before .before .before .before .before .before .before .pre in (pre .0, c .before .before .before .before .clear .kept .0 ∙ pre .1, pre .3)
+levels-requires c κs = let pre = c .before .before .before .before .before .before .before .before .before .before .pre in (pre .0, c .before .before .before .before .clear .kept .0 ∙ pre .1, pre .2)
 
 settle-requires : tie.Need-settle-requires
 unfolding Full
 settle-requires c κs =
-    let levelled = c .before .before .before .before .before in
+    let levelled = c .before .before .before .before .before .before in
     let cleared = levelled .before .before .before .before .before in
     let pre = cleared .before .before .before .before .before .before .pre in
-    (pre .0, hinted-full (levelled .levels .ensures .0) (cleared .clear .kept .0 ∙ pre .1), pre .2)
+    (pre .0, hinted-full (levelled .levels .ensures .0) (cleared .clear .kept .0 ∙ pre .1), levelled .levels .ensures .1)
 
 same-length : tie.Need-same-length
 same-length c = search needs
@@ -29,7 +29,7 @@ same-length-2 c = search needs
 
 returns : tie.Need-returns
 returns c =
-    let levelled = c .before .before .before .before .before .before .before .before in (
+    let levelled = c .before .before .before .before .before .before .before .before .before in (
       rw (levelled .before .before .before .before .before .clear .ensures) at (hinted-settled (levelled .levels .ensures .0) (c .before .before .settle .ensures)),
       levelled .levels .ensures .1,
     )

@@ -16,19 +16,19 @@ use Rattle.fewest.proofs.sweep.settle.Statement.{statement}
 use Rattle.fewest.proofs.sweep.settle.Tie as tie
 
 abbrev Inv-loop : tie.InvT-loop
-Inv-loop site words triples rule starts count up role first goal numbers₀ numbers =
+Inv-loop site scratch triples rule starts count up role first goal numbers₀ numbers =
     (length numbers ≡ length numbers₀) ×
     Settles (frame (siteOf site triples) up role (goalOf goal)) (recordsOf rule) first (pairs numbers₀) (pairs numbers)
 
 abbrev μ-loop : tie.MeasureT-loop
-μ-loop site words triples rule starts count up role first goal numbers₀ numbers = sum (pairs numbers)
+μ-loop site scratch triples rule starts count up role first goal numbers₀ numbers = sum (pairs numbers)
 
 loop-holds : tie.Need-loop-holds Inv-loop μ-loop
 loop-holds c = (refl, rest)
 
 sweep-requires : tie.Need-sweep-requires Inv-loop μ-loop
 unfolding Full
-sweep-requires c κs = let pre = c .before .before .before .before .before .pre in (pre .0, c .before .loop .inv .0 ∙ pre .1, pre .2)
+sweep-requires c κs = let pre = c .before .before .before .before .before .before .pre in (pre .0, c .before .loop .inv .0 ∙ pre .1, pre .2)
 
 loop-less : tie.Need-loop-less Inv-loop μ-loop
 loop-less c = swept-fell (c .before .before .before .sweep .ensures) (c .if1 .taken)

@@ -22,36 +22,36 @@ use Rattle.fewest.proofs.sweep.sweep.Statement.{statement}
 use Rattle.fewest.proofs.sweep.sweep.Tie as tie
 
 abbrev Inv-loop : tie.InvT-loop
-Inv-loop site words triples rule starts count up role first goal numbers₀ changed₀ r₀ numbers changed r =
+Inv-loop site scratch triples rule starts count up role first goal numbers₀ changed₀ r₀ numbers changed r =
     let F = frame (siteOf site triples) up role (goalOf goal) in
     (r ≤ count) × (length numbers ≡ length numbers₀) ×
     Seen sum (Settles F (recordsOf rule) first) (RecordQuiet F (recordsOf rule) first) r (pairs numbers₀) (pairs numbers) false changed
 
 abbrev μ-loop : tie.MeasureT-loop
-μ-loop site words triples rule starts count up role first goal numbers₀ changed₀ r₀ numbers changed r = count - r
+μ-loop site scratch triples rule starts count up role first goal numbers₀ changed₀ r₀ numbers changed r = count - r
 
 loop-holds : tie.Need-loop-holds Inv-loop μ-loop
 loop-holds c = (omega arith, omega arith, seen-none settles-chain)
 
 record-of-requires : tie.Need-record-of-requires Inv-loop μ-loop
-record-of-requires c κs = let few = c .before .before .before .before .before .pre .0 .few in omega arith
+record-of-requires c κs = let few = c .before .before .before .before .before .before .pre .0 .few in omega arith
 
 element-copy-out-operand : tie.Need-element-copy-out-operand Inv-loop μ-loop
 unfolding records
-element-copy-out-operand c = let few = c .before .before .before .before .before .before .pre .0 .few in omega arith
+element-copy-out-operand c = let few = c .before .before .before .before .before .before .before .pre .0 .few in omega arith
 
 cast-operand : tie.Need-cast-operand Inv-loop μ-loop
 unfolding records
 cast-operand c =
     let turn = c .before .before in
-    let small = turn .before .before .before .before .before .pre .0 .firsts (turn .before .loop .r) (turn .loop-test .taken) in
+    let small = turn .before .before .before .before .before .before .pre .0 .firsts (turn .before .loop .r) (turn .loop-test .taken) in
     omega arith
 
 sweep-record-requires : tie.Need-sweep-record-requires Inv-loop μ-loop
 unfolding Full
 sweep-record-requires c κs =
     let turn = c .before .before .before in
-    let (ready, full, words) = turn .before .before .before .before .before .pre in
+    let (ready, full, threads) = turn .before .before .before .before .before .before .pre in
     let at = turn .before .loop in
     let few = ready .few in (
       ready .good,
@@ -60,7 +60,7 @@ sweep-record-requires c κs =
       omega arith,
       rw (c .before .before .record-of .ensures) (ready .sits (at .r) (turn .loop-test .taken)),
       ready .firsts (at .r) (turn .loop-test .taken),
-      words,
+      threads,
     )
 
 add-r : tie.Need-add-r Inv-loop μ-loop
@@ -72,7 +72,7 @@ loop-less c = omega arith
 loop-again : tie.Need-loop-again Inv-loop μ-loop
 loop-again c =
     let turn = c .before .before .before .before .before .before in
-    let ready = turn .before .before .before .before .before .pre .0 in
+    let ready = turn .before .before .before .before .before .before .pre .0 in
     let at = turn .before .loop in (
       omega arith,
       c .before .before .sweep-record .kept .1 .1 .1 .1 .1 .1 .1 .1 .0 ∙ at .inv .1,
@@ -87,7 +87,7 @@ same-length c = omega arith
 
 returns : tie.Need-returns Inv-loop μ-loop
 returns c =
-    let counted = c .before .before .before .before .before .pre .0 .counted in
+    let counted = c .before .before .before .before .before .before .pre .0 .counted in
     all-swept (omega arith) (c .before .loop .inv .2)
 
 pub sweep-spec : {M : Type 1} → statement M

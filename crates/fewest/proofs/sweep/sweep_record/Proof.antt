@@ -13,7 +13,7 @@ enum-known-rec c = search needs
 
 sweep-step-requires : tie.Need-sweep-step-requires
 sweep-step-requires c κs =
-    let pre = c .before .before .before .before .before .before .pre in
+    let pre = c .before .before .before .before .before .before .before .pre in
     let sits = rw (c .before .before .rec .given .1) at (pre .4) in
     (pre .0, pre .1, pre .2, pre .3, sits .1, pre .6)
 
@@ -30,19 +30,19 @@ sweep-row-requires-2 : tie.Need-sweep-row-requires-2
 sweep-row-requires-2 c κs = search needs
 
 sub-sweep-row : tie.Need-sub-sweep-row
-sub-sweep-row c = let chosen = c .before .before .before .before .before in rw (chosen .enum-told2 .given .1) at (chosen .before .before .before .before .pre .4)
+sub-sweep-row c = let chosen = c .before .before .before .before .before in rw (chosen .enum-told2 .given .1) at (chosen .before .before .before .before .before .pre .4)
 
 sweep-row-requires-3 : tie.Need-sweep-row-requires-3
 unfolding Full
 sweep-row-requires-3 c κs =
-    let pre = c .before .before .before .before .before .before .before .before .before .pre in
+    let pre = c .before .before .before .before .before .before .before .before .before .before .pre in
     (c .before .before .before .sweep-row2 .kept .0 ∙ pre .1, pre .3, omega (arith, pre .3))
 
 enum-told-3 : tie.Need-enum-told-3
 enum-told-3 c = search needs
 
 sub-sweep-row-2 : tie.Need-sub-sweep-row-2
-sub-sweep-row-2 c = rw (c .before .enum-told3 .given .1) at (c .before .before .before .before .before .pre .4)
+sub-sweep-row-2 c = rw (c .before .enum-told3 .given .1) at (c .before .before .before .before .before .before .pre .4)
 
 sweep-row-requires-4 : tie.Need-sweep-row-requires-4
 sweep-row-requires-4 c κs = search needs
@@ -50,7 +50,7 @@ sweep-row-requires-4 c κs = search needs
 sweep-rests-requires : tie.Need-sweep-rests-requires
 unfolding Full
 sweep-rests-requires c κs =
-    let pre = c .before .before .before .before .before .before .before .before .before .pre in
+    let pre = c .before .before .before .before .before .before .before .before .before .before .pre in
     (c .before .before .before .sweep-row4 .kept .0 ∙ pre .1, pre .2, pre .3, tt, omega arith)
 
 same-length : tie.Need-same-length
@@ -59,7 +59,7 @@ same-length c = search needs
 returns : tie.Need-returns
 returns c =
     by-step (λ w. lowers-chain) _ _ (c .before .before .before .before .before .rec .given .1)
-    (c .before .before .sweep-step .ensures ((rw (c .before .before .before .before .before .rec .given .1) at (c .before .before .before .before .before .before .before .before .before .pre .4)) .0))
+    (c .before .before .sweep-step .ensures ((rw (c .before .before .before .before .before .rec .given .1) at (c .before .before .before .before .before .before .before .before .before .before .pre .4)) .0))
 
 same-length-2 : tie.Need-same-length-2
 same-length-2 c = search needs
@@ -81,7 +81,7 @@ same-length-4 c = search needs
 returns-4 : tie.Need-returns-4
 returns-4 c =
     by-star (λ w. lowers-chain) _ _ (c .before .before .before .before .before .before .before .before .enum-told3 .given .1)
-    (c .before .before .before .before .before .before .sweep-row4 .ensures _) (c .before .before .sweep-rests .ensures _ (c .before .before .before .before .before .before .before .before .before .before .before .before .pre .6) tt (λ e. refl))
+    (c .before .before .before .before .before .before .sweep-row4 .ensures _) (c .before .before .sweep-rests .ensures _ (c .before .before .before .before .before .before .before .before .before .before .before .before .before .pre .6) tt (λ e. refl))
 
 pub sweep-record-spec : {M : Type 1} → statement M
 sweep-record-spec =

@@ -23,7 +23,7 @@ enum-known-label c = search needs
 
 rest-requires : tie.Need-rest-requires
 rest-requires c κs =
-    let pre = c .before .before .before .before .before .before .before .before .pre in
+    let pre = c .before .before .before .before .before .before .before .before .before .pre in
     let name = rw (c .before .before .label .given .1) at (pre .4) in
     (pre .1, pre .2, pre .3, name, name, omega arith)
 
@@ -44,7 +44,7 @@ same-length-3 c = search needs
 returns-3 : tie.Need-returns-3
 returns-3 c = λ known.
     let other = c .before .before .before .before in
-    let start = other .before .before .before .before .before in
+    let start = other .before .before .before .before .before .before in
     rw (self-axis _ (other .before .if1 .left))
     (c .before .before .sweep-rests .ensures _ (start .pre .5) (nameless (start .args .step .label) (other .match .keys2)) (λ e. absurd (omega arith)))
 

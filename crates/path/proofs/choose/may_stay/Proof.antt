@@ -1,6 +1,6 @@
 -- `path::choose::may_stay` meets its contract, label by label.
 use borrow.Author.Needs.{needs}
-use Rattle.path.specs.Tells.{holds}
+use Rattle.fewest.specs.Tells.{holds}
 use Rattle.path.proofs.choose.may_stay.Statement.{statement}
 use Rattle.path.proofs.choose.may_stay.Tie as tie
 

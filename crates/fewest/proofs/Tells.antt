@@ -3,7 +3,7 @@ use Prim.Native.Nat.{ℕ}
 use mathlib.Core.Path.{_≡_, refl}
 use mathlib.Core.Bool.{Bool, true, false}
 use native.Mathlib.Omega.{arith}
-use Rattle.path.specs.Tells.{Tells, holds, fails}
+use Rattle.fewest.specs.Tells.{Tells, holds, fails}
 
 module _ {A : Type 0} where
   pub told : {b : Bool} → Tells A b → b ≡ true → A

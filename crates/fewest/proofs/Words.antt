@@ -12,10 +12,10 @@ use Rattle.meaning.specs.Site.{Triple, Site, triple, Voc}
 use Rattle.records.specs.Sites.{siteOf}
 use Rattle.records.specs.Rules.{axisNumbered}
 use Rattle.records.proofs.Sites.{length-siteOf}
 use Rattle.fewest.specs.Threads.{FirstWith, startBy}
-use Rattle.path.specs.Tells.{Tells, holds, fails}
-use Rattle.path.specs.Words.{StandsAs}
-use Rattle.path.proofs.Telling.{told, told-not}
+use Rattle.fewest.specs.Tells.{Tells, holds, fails}
+use Rattle.fewest.specs.Words.{StandsAs}
+use Rattle.fewest.proofs.Tells.{told, told-not}
 
 module _ {key : Triple → ℕ} {s : Site} {t : ℕ} where
   stands-found : {k : ℕ} → k < length s → t ≡ key (triple s k) → Tells (StandsAs key s t) true

@@ -1,8 +1,8 @@
--- `path::word::word` meets its contract: a word is a subject or an object.
+-- `fewest::word::word` meets its contract: a word is a subject or an object.
 use borrow.Author.Needs.{needs}
-use Rattle.path.proofs.Words.{word-subject, word-object}
-use Rattle.path.proofs.word.word.Statement.{statement}
-use Rattle.path.proofs.word.word.Tie as tie
+use Rattle.fewest.proofs.Words.{word-subject, word-object}
+use Rattle.fewest.proofs.word.word.Statement.{statement}
+use Rattle.fewest.proofs.word.word.Tie as tie
 
 is-subject-requires : tie.Need-is-subject-requires
 is-subject-requires c κs = search needs

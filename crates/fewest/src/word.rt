@@ -1,13 +1,13 @@
 // Whether a term is in the vocabulary: the first triple of its thread tells, by subject or by object.
-use fewest::threads::first_from;
+use crate::threads::first_from;
 ghost use Prim.Native.Nat.{ℕ, _<_};
 ghost use mathlib.Core.List.{List};
 ghost use Rattle.meaning.specs.Limits.{terms};
 ghost use Rattle.meaning.specs.Site.{Voc};
 ghost use Rattle.records.specs.Sites.{siteOf};
 ghost use Rattle.fewest.specs.Threads.{Threads};
-ghost use Rattle.path.specs.Tells.{Tells};
-ghost use Rattle.path.specs.Words.{StandsAs};
+ghost use Rattle.fewest.specs.Tells.{Tells};
+ghost use Rattle.fewest.specs.Words.{StandsAs};
 
 // Some triple has the term as subject: axis 1 starts there.
 fn is_subject(scratch: &[u8], triples: usize, t: usize) -> bool

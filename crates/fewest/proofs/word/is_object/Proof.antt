@@ -1,9 +1,9 @@
--- `path::word::is_object` meets its contract: the first triple of the object's thread tells.
+-- `fewest::word::is_object` meets its contract: the first triple of the object's thread tells.
 use native.Mathlib.Omega.{arith}
 use borrow.Author.Needs.{needs}
-use Rattle.path.proofs.Words.{object-tells}
-use Rattle.path.proofs.word.is_object.Statement.{statement}
-use Rattle.path.proofs.word.is_object.Tie as tie
+use Rattle.fewest.proofs.Words.{object-tells}
+use Rattle.fewest.proofs.word.is_object.Statement.{statement}
+use Rattle.fewest.proofs.word.is_object.Tie as tie
 
 first-from-requires : tie.Need-first-from-requires
 first-from-requires c κs = search needs
