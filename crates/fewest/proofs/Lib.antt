@@ -18,6 +18,7 @@ pub mod Rowwise
 pub mod Tells
 pub mod Resting
 pub mod ByTriples
+pub mod Naming
 pub mod ByRecords
 pub mod Operands
 pub mod Linking

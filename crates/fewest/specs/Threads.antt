@@ -3,8 +3,10 @@
 use Prim.Native.Nat.{ℕ, suc, _+_, _<_, _≤_}
 use mathlib.Core.Path.{_≡_}
 use mathlib.Core.Logic.{_≢_}
+use mathlib.Core.Bool.{cond}
 use mathlib.Core.List.{List}
 use lib.ListN.{length, getD, set}
+use lib.Dec.{eqb}
 use Rattle.meaning.specs.Limits.{terms, triples}
 use Rattle.meaning.specs.Site.{Triple, Site, triple}
 use Rattle.meaning.specs.Move.{start, finish, Axis, self, ahead, inverse}
@@ -100,3 +102,7 @@ pub record ThreadNext (b : List ℕ) (n : ℕ) (X : List ℕ) (axis t k j : ℕ)
 pub record SubjectNext (b : List ℕ) (n t k j : ℕ) : Type 0 where
   pub later : k < j
   pub next : subjectOf b n k ≡ t → FirstWith (subjectOf b n) n t (suc k) j
+
+-- the axis that starts where the axis with this number has its middle
+unfoldable pub byMiddle : ℕ → ℕ
+byMiddle a = cond (eqb a 1) 5 (cond (eqb a 2) 5 (cond (eqb a 3) 2 (cond (eqb a 4) 2 1)))

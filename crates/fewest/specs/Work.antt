@@ -28,6 +28,7 @@ use Rattle.fewest.specs.Pairs.{pairs}
 use Rattle.fewest.specs.Frame.{Climbs, Frame, frame}
 use Rattle.fewest.specs.Offer.{view, Continues, Work, stepping, proving, copying, resting, worksOf, Offer, Lowers, Quiet, Settles, Settled}
 use Rattle.fewest.specs.Sweep.{sum, Swept}
+use Rattle.fewest.specs.Threads.{Threads}
 
 -- the code's goal is the meaning's
 abbrev pub goalOf : Goal → meaning.Goal
@@ -135,6 +136,11 @@ RestsSwept b n up role g l cost r T T′ was now =
 abbrev pub AxisSwept : List ℕ → ℕ → Step → List ℕ → List ℕ → meaning.Goal → ℕ → List ℕ → List ℕ → Bool → Bool → Type 0
 AxisSwept b n x up role g r T T′ was now =
     x .axis ≢ 0 → x .axis ≤ lastAxis → WorkSwept (frame (siteOf b n) up role g) (workOf (axisNumbered (x .axis)) (x .label)) r T T′ was now
+
+-- the triples threaded by the named middle were looked at: by threads of the site, all with that middle
+pub record NameSwept (b : List ℕ) (n : ℕ) (X : List ℕ) (axis term : ℕ) (up role : List ℕ) (g : meaning.Goal) (r : ℕ) (T T′ : List ℕ) (was now : Bool) : Type 0 where
+  pub reached : axis ≢ 0 → axis ≤ lastAxis → Lowers (frame (siteOf b n) up role g) (workOf (axisNumbered axis) (Term term)) r T T′
+  pub swept : axis ≢ 0 → axis ≤ lastAxis → Threads b n X → WorkSwept (frame (siteOf b n) up role g) (workOf (axisNumbered axis) (Term term)) r T T′ was now
 
 abbrev pub StepSwept : List ℕ → ℕ → Step → List ℕ → List ℕ → meaning.Goal → ℕ → List ℕ → List ℕ → Bool → Bool → Type 0
 StepSwept b n x up role g r T T′ was now =

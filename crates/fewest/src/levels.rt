@@ -31,6 +31,7 @@ use crate::sets::size_of;
 use crate::sets::sizes;
 use crate::sets::step_of;
 use crate::sweep::sweep_axis;
+use crate::sweep::sweep_name;
 use crate::table::lower;
 use crate::table::number;
 use crate::threads::first_to;
@@ -1112,11 +1113,27 @@ fn sweep_last<'a>(
     requires { ⌜ Ready (now site) triples (now rule) (now starts) count (now up) (now role) (now first) × Full (now numbers) × (r < count) × Stepping (now rule) (now starts) r step ⌝ }
     ensures { λ _. ⌜ Hinted (now (site .entry)) triples (now (rule .entry)) (now (up .entry)) (now (role .entry)) (now (first .entry)) (goalOf goal) (now (numbers .entry)) (now (numbers .exit)) ⌝ }
 {
+    let label = step.label;
     if step.axis != 0 {
+        if let Label::Term(term) = label {
+            sweep_name(
+                site,
+                scratch,
+                triples,
+                step.axis,
+                term,
+                up,
+                role,
+                goal,
+                numbers,
+                r,
+                false,
+            );
+            return;
+        }
         sweep_axis(site, triples, step, up, role, goal, numbers, r, false);
         return;
     }
-    let label = step.label;
     rest_all(site, triples, up, role, goal, scratch, numbers, label, r);
 }
 

@@ -6,6 +6,9 @@ use crate::look::parts_of;
 use crate::look::rest;
 use crate::table::lower;
 use crate::table::number;
+use crate::threads::by_middle;
+use crate::threads::first_from;
+use crate::threads::next_from;
 use crate::word::word;
 use records::Label;
 use records::RECORDS;
@@ -22,7 +25,7 @@ ghost use Rattle.records.specs.Sites.{Accepted};
 ghost use Rattle.fewest.specs.Pairs.{pairs};
 ghost use Rattle.fewest.specs.Frame.{Climbs};
 ghost use Rattle.fewest.specs.Table.{Full};
-ghost use Rattle.fewest.specs.Work.{goalOf, Tests, RowSwept, RestsSwept, AxisSwept, StepSwept, Sits, RecordSwept, Ready, SweptOver, SettledOver};
+ghost use Rattle.fewest.specs.Work.{goalOf, Tests, RowSwept, RestsSwept, AxisSwept, NameSwept, StepSwept, Sits, RecordSwept, Ready, SweptOver, SettledOver};
 ghost use Rattle.fewest.specs.Threads.{Threads};
 
 // Row r is lowered to row a, place by place.
@@ -93,6 +96,35 @@ pub fn sweep_axis<'a>(
     changed
 }
 
+// Each triple whose middle is the named term, for the step of record r, whose axis takes triples: they are threaded.
+pub fn sweep_name<'a>(
+    site: &[u8],
+    scratch: &[u8],
+    triples: usize,
+    axis: usize,
+    term: usize,
+    up: &'a [u8; RECORDS],
+    role: &'a [u8; RECORDS],
+    goal: Goal,
+    numbers: &mut [u8],
+    r: usize,
+    was: bool,
+) -> bool
+    requires { ⌜ Accepted (now site) triples × Full (now numbers) × Climbs records (now up) (now role) × (r < records) × (term < terms) ⌝ }
+    ensures { λ changed. ⌜ NameSwept (now (site .entry)) triples (now (scratch .entry)) axis term (now (up .entry)) (now (role .entry)) (goalOf goal) r (pairs (now (numbers .entry))) (pairs (now (numbers .exit))) was changed ⌝ }
+{
+    let parts = parts_of(axis);
+    let by = by_middle(axis);
+    let label = Label::Term(term);
+    let mut changed = was;
+    let mut k = first_from(scratch, by, term);
+    while k < triples {
+        changed = look(site, k, parts, label, up, role, goal, numbers, r, changed);
+        k = next_from(site, triples, scratch, by, term, k);
+    }
+    changed
+}
+
 // The step of record r, whatever its axis: self stays, at its named term or at each vocabulary term.
 fn sweep_step<'a>(
     site: &[u8],
@@ -109,10 +141,25 @@ fn sweep_step<'a>(
     requires { ⌜ Accepted (now site) triples × Full (now numbers) × Climbs records (now up) (now role) × (r < records) × Tests (step .label) r × Threads (now site) triples (now scratch) ⌝ }
     ensures { λ changed. ⌜ StepSwept (now (site .entry)) triples step (now (up .entry)) (now (role .entry)) (goalOf goal) r (pairs (now (numbers .entry))) (pairs (now (numbers .exit))) was changed ⌝ }
 {
+    let label = step.label;
     if step.axis != 0 {
+        if let Label::Term(term) = label {
+            return sweep_name(
+                site,
+                scratch,
+                triples,
+                step.axis,
+                term,
+                up,
+                role,
+                goal,
+                numbers,
+                r,
+                was,
+            );
+        }
         return sweep_axis(site, triples, step, up, role, goal, numbers, r, was);
     }
-    let label = step.label;
     if let Label::Term(term) = label {
         return rest(up, role, goal, numbers, label, 1, r, term, was);
     }

@@ -16,7 +16,7 @@ ghost use Rattle.meaning.specs.Limits.{terms, records};
 ghost use Rattle.records.specs.Sites.{Accepted};
 ghost use Rattle.fewest.specs.Cells.{values, cells};
 ghost use Rattle.fewest.specs.Work.{Has};
-ghost use Rattle.fewest.specs.Threads.{Blank, Headed, ThreadedOne, Threads, ThreadFirst, ThreadNext, SubjectNext};
+ghost use Rattle.fewest.specs.Threads.{Blank, Headed, ThreadedOne, Threads, ThreadFirst, ThreadNext, SubjectNext, byMiddle};
 
 // Where the first triples and the next ones stand; what is behind them is free.
 const FIRST_SUBJECT: usize = 0;
@@ -169,4 +169,17 @@ pub fn witness(scratch: &[u8], t: usize) -> usize {
         return k;
     }
     cell(scratch, FIRST_OBJECT + t % TERMS)
+}
+
+// The axis that starts where this one has its middle: along it the triples with a named middle are threaded.
+pub fn by_middle(axis: usize) -> usize
+    ensures { λ by. ⌜ by ≡ byMiddle axis ⌝ }
+{
+    match axis {
+        1 => 5,
+        2 => 5,
+        3 => 2,
+        4 => 2,
+        _ => 1,
+    }
 }

@@ -17,12 +17,12 @@ fill-requires : tie.Need-fill-requires
 unfolding Full
 fill-requires c κs =
     let pre = c .before .before .before .before .before .before .before .before .before .pre in
-    (given-ready (pre .0), pre .3 .numbers-fit, c .before .before .before .words-of .ensures, pre .3 .asked-fits)
+    (given-ready (pre .0), pre .3 .numbers-fit, pre .3 .asked-fits)
 
 show-requires : tie.Need-show-requires
 show-requires c κs =
     let pre = c .before .before .before .before .before .before .before .before .before .before .before .before .before .before .before .before .before .pre in
-    let tables = c .before .before .before .before .before .before .before .fill .kept .1 .1 .1 .1 .1 .1 .1 .1 .1 .1 in
+    let tables = c .before .before .before .before .before .before .before .fill .kept .1 .1 .1 .1 .1 .1 .1 .1 .1 in
     (pre .0, c .before .before .before .before .before .before .before .fill .ensures .0, pre .1, record { asked-fits = tables .0 ∙ pre .3 .asked-fits; numbers-fit = tables .1 .0 ∙ pre .3 .numbers-fit }, pre .4)
 
 slice-relend-prefix-ask : tie.Need-slice-relend-prefix-ask
@@ -35,13 +35,13 @@ ask-requires : tie.Need-ask-requires
 unfolding Full Whole
 ask-requires c κs =
     let pre = c .before .before .before .before .before .before .before .before .before .before .before .before .before .before .before .before .before .before .before .before .before .before .before .before .before .before .pre in
-    let tables = c .before .before .before .before .before .before .before .before .before .before .before .before .before .before .before .before .fill .kept .1 .1 .1 .1 .1 .1 .1 .1 .1 .1 in
+    let tables = c .before .before .before .before .before .before .before .before .before .before .before .before .before .before .before .before .fill .kept .1 .1 .1 .1 .1 .1 .1 .1 .1 in
     (given-ready (pre .0), tables .1 .0 ∙ pre .3 .numbers-fit, c .before .before .before .before .before .before .before .before .show .kept .1 .1 .1 .1 .1 .1 .1 .1 .1 .1 .0 ∙ tables .0 ∙ pre .3 .asked-fits, given-some (pre .0), pre .1, c .before .before .before .before .before .before .before .before .before .before .before .before .before .before .before .before .before .before .before .before .words-of .ensures)
 
 finish-requires : tie.Need-finish-requires
 finish-requires c κs =
     let pre = c .before .before .before .before .before .before .before .before .before .before .before .before .before .before .before .before .before .before .before .before .before .before .before .before .before .before .before .before .before .before .before .before .pre in
-    let numbers = c .before .before .before .before .before .before .before .before .before .before .before .before .before .before .before .before .before .before .before .before .before .before .fill .last .1 .1 .1 .1 .1 .1 .1 .1 .1 .1 .1 .0 in
+    let numbers = c .before .before .before .before .before .before .before .before .before .before .before .before .before .before .before .before .before .before .before .before .before .before .fill .last .1 .1 .1 .1 .1 .1 .1 .1 .1 .1 .0 in
     let ends = c .before .before .before .before .before .ask .last .1 .1 .1 .1 .1 .1 .1 .1 .1 .1 .1 .1 .0 in
     let kept = c .before .before .before .before .before .ask .kept .1 .1 .1 .1 .1 .1 .1 .1 .1 .1 .1 .1 .0 in
     let E = no-ends numbers ends kept refl (c .before .before .before .before .before .before .before .before .before .before .before .before .before .before .before .before .before .before .before .before .before .before .fill .ensures .0) (c .before .before .before .before .before .ask .ensures) in
@@ -60,8 +60,8 @@ returns : tie.Need-returns
 unfolding room-steps
 returns c =
     let pre = c .before .before .before .before .before .before .before .before .before .before .before .before .before .before .before .before .before .before .before .before .before .before .before .before .before .before .before .before .before .before .before .before .before .pre in
-    let tables = c .before .before .before .before .before .before .before .before .before .before .before .before .before .before .before .before .before .before .before .before .before .before .before .fill .kept .1 .1 .1 .1 .1 .1 .1 .1 .1 .1 in
-    let numbers = c .before .before .before .before .before .before .before .before .before .before .before .before .before .before .before .before .before .before .before .before .before .before .before .fill .last .1 .1 .1 .1 .1 .1 .1 .1 .1 .1 .1 .0 in
+    let tables = c .before .before .before .before .before .before .before .before .before .before .before .before .before .before .before .before .before .before .before .before .before .before .before .fill .kept .1 .1 .1 .1 .1 .1 .1 .1 .1 in
+    let numbers = c .before .before .before .before .before .before .before .before .before .before .before .before .before .before .before .before .before .before .before .before .before .before .before .fill .last .1 .1 .1 .1 .1 .1 .1 .1 .1 .1 .0 in
     let ends = c .before .before .before .before .before .before .ask .last .1 .1 .1 .1 .1 .1 .1 .1 .1 .1 .1 .1 .0 in
     let kept = c .before .before .before .before .before .before .ask .kept .1 .1 .1 .1 .1 .1 .1 .1 .1 .1 .1 .1 .0 in
     let E = no-ends numbers ends kept refl (c .before .before .before .before .before .before .before .before .before .before .before .before .before .before .before .before .before .before .before .before .before .before .before .fill .ensures .0) (c .before .before .before .before .before .before .ask .ensures) in

@@ -17,33 +17,33 @@ words-of-requires c κs = given-ready (c .before .before .before .before .before
 fill-requires : tie.Need-fill-requires
 fill-requires c κs =
     let pre = c .before .before .before .before .before .before .before .before .before .before .before .pre in
-    (given-ready (pre .0), pre .4, c .before .before .before .words-of .ensures, pre .3 .asked-fits)
+    (given-ready (pre .0), pre .4, pre .3 .asked-fits)
 
 show-words-requires : tie.Need-show-words-requires
 unfolding Whole Full
 show-words-requires c κs =
     let pre = c .before .before .before .before .before .before .before .before .before .before .before .before .before .before .before .before .before .before .before .pre in
-    let tables = c .before .before .before .before .before .before .before .fill .kept .1 .1 .1 .1 .1 .1 .1 .1 .1 .1 in
+    let tables = c .before .before .before .before .before .before .before .fill .kept .1 .1 .1 .1 .1 .1 .1 .1 .1 in
     (pre .0, c .before .before .before .before .before .before .before .fill .ensures .0, pre .1, tables .0 ∙ pre .3 .asked-fits, tables .1 .0 ∙ pre .4, record { numbers = length (c .before .before .before .before .before .before .before .before .before .before .before .before .before .before .before .before .before .before .before .args .room .now); long = refl; enough = omega arith })
 
 ask-requires : tie.Need-ask-requires
 unfolding Full Whole
 ask-requires c κs =
     let pre = c .before .before .before .before .before .before .before .before .before .before .before .before .before .before .before .before .before .before .before .before .before .before .before .before .before .before .before .before .pre in
-    let tables = c .before .before .before .before .before .before .before .before .before .before .before .before .before .before .before .before .fill .kept .1 .1 .1 .1 .1 .1 .1 .1 .1 .1 in
+    let tables = c .before .before .before .before .before .before .before .before .before .before .before .before .before .before .before .before .fill .kept .1 .1 .1 .1 .1 .1 .1 .1 .1 in
     (given-ready (pre .0), tables .1 .0 ∙ pre .4, c .before .before .before .before .before .before .before .before .show-words .kept .1 .1 .1 .1 .1 .1 .1 .1 .1 .1 .1 .0 ∙ tables .0 ∙ pre .3 .asked-fits, given-some (pre .0), pre .1, c .before .before .before .before .before .before .before .before .before .before .before .before .before .before .before .before .before .before .before .before .words-of .ensures)
 
 copy-back-requires : tie.Need-copy-back-requires
 unfolding Full
 copy-back-requires c κs =
     let pre = c .before .before .before .before .before .before .before .before .before .before .before .before .before .before .before .before .before .before .before .before .before .before .before .before .before .before .before .before .before .before .before .before .before .before .before .pre in
-    let tables = c .before .before .before .before .before .before .before .before .before .before .before .before .before .before .before .before .before .before .before .before .before .before .before .fill .kept .1 .1 .1 .1 .1 .1 .1 .1 .1 .1 in
+    let tables = c .before .before .before .before .before .before .before .before .before .before .before .before .before .before .before .before .before .before .before .before .before .before .before .fill .kept .1 .1 .1 .1 .1 .1 .1 .1 .1 in
     (tables .1 .0 ∙ pre .4, pre .3 .numbers-fit)
 
 finish-requires : tie.Need-finish-requires
 finish-requires c κs =
     let pre = c .before .before .before .before .before .before .before .before .before .before .before .before .before .before .before .before .before .before .before .before .before .before .before .before .before .before .before .before .before .before .before .before .before .before .before .before .before .before .before .pre in
-    let numbers = c .before .before .before .before .before .before .before .before .before .before .before .before .before .before .before .before .before .before .before .before .before .before .before .before .before .before .before .fill .last .1 .1 .1 .1 .1 .1 .1 .1 .1 .1 .1 .0 in
+    let numbers = c .before .before .before .before .before .before .before .before .before .before .before .before .before .before .before .before .before .before .before .before .before .before .before .before .before .before .before .fill .last .1 .1 .1 .1 .1 .1 .1 .1 .1 .1 .0 in
     let ends = c .before .before .before .before .before .before .before .before .before .before .ask .last .1 .1 .1 .1 .1 .1 .1 .1 .1 .1 .1 .1 .0 in
     let kept = c .before .before .before .before .before .before .before .before .before .before .ask .kept .1 .1 .1 .1 .1 .1 .1 .1 .1 .1 .1 .1 .0 in
     let E = no-ends numbers ends kept (pre .5) (c .before .before .before .before .before .before .before .before .before .before .before .before .before .before .before .before .before .before .before .before .before .before .before .before .before .before .before .fill .ensures .0) (c .before .before .before .before .before .before .before .before .before .before .ask .ensures) in
@@ -68,8 +68,8 @@ returns : tie.Need-returns
 unfolding Full
 returns c =
     let pre = c .before .before .before .before .before .before .before .before .before .before .before .before .before .before .before .before .before .before .before .before .before .before .before .before .before .before .before .before .before .before .before .before .before .before .before .before .before .before .before .before .pre in
-    let tables = c .before .before .before .before .before .before .before .before .before .before .before .before .before .before .before .before .before .before .before .before .before .before .before .before .before .before .before .before .fill .kept .1 .1 .1 .1 .1 .1 .1 .1 .1 .1 in
-    let numbers = c .before .before .before .before .before .before .before .before .before .before .before .before .before .before .before .before .before .before .before .before .before .before .before .before .before .before .before .before .fill .last .1 .1 .1 .1 .1 .1 .1 .1 .1 .1 .1 .0 in
+    let tables = c .before .before .before .before .before .before .before .before .before .before .before .before .before .before .before .before .before .before .before .before .before .before .before .before .before .before .before .before .fill .kept .1 .1 .1 .1 .1 .1 .1 .1 .1 in
+    let numbers = c .before .before .before .before .before .before .before .before .before .before .before .before .before .before .before .before .before .before .before .before .before .before .before .before .before .before .before .before .fill .last .1 .1 .1 .1 .1 .1 .1 .1 .1 .1 .0 in
     let ends = c .before .before .before .before .before .before .before .before .before .before .before .ask .last .1 .1 .1 .1 .1 .1 .1 .1 .1 .1 .1 .1 .0 in
     let kept = c .before .before .before .before .before .before .before .before .before .before .before .ask .kept .1 .1 .1 .1 .1 .1 .1 .1 .1 .1 .1 .1 .0 in
     let E = no-ends numbers ends kept (pre .5) (c .before .before .before .before .before .before .before .before .before .before .before .before .before .before .before .before .before .before .before .before .before .before .before .before .before .before .before .before .fill .ensures .0) (c .before .before .before .before .before .before .before .before .before .before .before .ask .ensures) in

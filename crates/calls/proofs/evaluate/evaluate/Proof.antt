@@ -1,4 +1,4 @@
--- `calls::evaluate::evaluate` meets its contract: what `fill` settles and what `ask` marks, both over the words of the site; neither
+-- `calls::evaluate::evaluate` meets its contract: what `fill` settles and what `ask` marks over the words of the site; neither
 -- changes a table's length.
 use mathlib.Core.Path.{_∙_}
 use borrow.Author.Needs.{needs}
@@ -15,7 +15,7 @@ unfolding Whole
 fill-requires c κs =
     let shown = c .before .before .before in
     let pre = shown .before .before .before .before .before .before .pre in
-    (pre .0, pre .1, shown .words-of .ensures, pre .2)
+    (pre .0, pre .1, pre .2)
 
 ask-requires : tie.Need-ask-requires
 unfolding Full Whole
@@ -23,7 +23,7 @@ ask-requires c κs =
     let filled = c .before .before .before .before .before .before .before .before in
     let shown = filled .before .before .before .before in
     let pre = shown .before .before .before .before .before .before .pre in
-    let tables = filled .fill .kept .1 .1 .1 .1 .1 .1 .1 .1 .1 .1 in
+    let tables = filled .fill .kept .1 .1 .1 .1 .1 .1 .1 .1 .1 in
     (pre .0, tables .1 .0 ∙ pre .1, tables .0 ∙ pre .2, pre .3, pre .4, shown .words-of .ensures)
 
 same-length : tie.Need-same-length

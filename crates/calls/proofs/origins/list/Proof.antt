@@ -9,23 +9,19 @@ use Rattle.calls.proofs.Starting.{told-table}
 use Rattle.calls.proofs.origins.list.Statement.{statement}
 use Rattle.calls.proofs.origins.list.Tie as tie
 
-words-of-requires : tie.Need-words-of-requires
-words-of-requires c κs = given-ready (c .before .before .before .before .before .pre .0) .good
-
 fill-requires : tie.Need-fill-requires
 unfolding Whole
 fill-requires c κs =
-    let shown = c .before .before .before in
-    let pre = shown .before .before .before .before .before .before .pre in
-    (given-ready (pre .0), pre .1, shown .words-of .ensures, pre .2)
+    let pre = c .before .before .before .before .before .before .before .pre in
+    (given-ready (pre .0), pre .1, pre .2)
 
 sub-tell : tie.Need-sub-tell
-sub-tell c = omega (arith, given-some (c .before .before .before .before .before .before .before .before .before .before .before .before .before .before .before .pre .0))
+sub-tell c = omega (arith, given-some (c .before .before .before .before .before .before .before .before .before .before .before .before .before .pre .0))
 
 tell-requires : tie.Need-tell-requires
 unfolding Full
 tell-requires c κs =
-    let pre = c .before .before .before .before .before .before .before .before .before .before .before .before .before .before .before .before .pre in
+    let pre = c .before .before .before .before .before .before .before .before .before .before .before .before .before .before .pre in
     (omega arith, omega (arith, given-some (pre .0), given-ready (pre .0) .few), omega arith)
 
 clear-requires : tie.Need-clear-requires
@@ -58,7 +54,6 @@ pub list-spec : {M : Type 1} → statement M
 list-spec =
     tie.close
     (tie.spec
-    words-of-requires
     fill-requires
     sub-tell
     tell-requires

@@ -1,23 +1,44 @@
--- `fewest::levels::sweep_last` meets its contract: an axis that takes triples goes by them, self stays.
+-- `fewest::levels::sweep_last` meets its contract: an axis that takes triples goes by them, or by those with its name; self stays.
 use Rattle.fewest.proofs.Hints.{hinted-step, hinted-self, stepping-sits}
 use borrow.Author.Needs.{needs}
 use native.Mathlib.Omega.{arith}
 use Rattle.fewest.proofs.levels.sweep_last.Statement.{statement}
 use Rattle.fewest.proofs.levels.sweep_last.Tie as tie
 
-sweep-axis-requires : tie.Need-sweep-axis-requires
-sweep-axis-requires c κs =
-    let (ready, full, here, stepping) = c .before .before .before .before .before .before .before .pre in
+enum-known-label : tie.Need-enum-known-label
+enum-known-label c = search needs
+
+sweep-name-requires : tie.Need-sweep-name-requires
+sweep-name-requires c κs =
+    let (ready, full, here, stepping) = c .before .before .before .before .before .before .before .before .before .before .pre in
     let few = ready .few in
-    (ready .good, full, ready .climbs, omega arith, stepping-sits ready here _ stepping .1)
+    (ready .good, full, ready .climbs, omega arith, rw (c .before .before .label .given .1) at (stepping-sits ready here _ stepping .1))
 
 same-length : tie.Need-same-length
 same-length c = search needs
 
 returns : tie.Need-returns
 returns c =
+    let after-sweep-name = c .before .before in
+    let named = after-sweep-name .before .before .before in
+    let then-1 = named .before .before in
+    let (ready, full, here, stepping) = then-1 .before .before .before .before .before .before .pre in
+    hinted-step ready here _ stepping (after-sweep-name .sweep-name .kept .1 .1 .1 .1 .1 .1 .1 .1 .0)
+    (rw (named .label .given .1) (after-sweep-name .sweep-name .ensures .reached (then-1 .if1 .taken) (stepping-sits ready here _ stepping .0)))
+
+sweep-axis-requires : tie.Need-sweep-axis-requires
+sweep-axis-requires c κs =
+    let (ready, full, here, stepping) = c .before .before .before .before .before .before .before .before .pre in
+    let few = ready .few in
+    (ready .good, full, ready .climbs, omega arith, stepping-sits ready here _ stepping .1)
+
+same-length-2 : tie.Need-same-length-2
+same-length-2 c = search needs
+
+returns-2 : tie.Need-returns-2
+returns-2 c =
     let after-sweep-axis = c .before .before in
-    let then-1 = after-sweep-axis .before .before in
+    let then-1 = after-sweep-axis .before .before .before in
     let (ready, full, here, stepping) = then-1 .before .before .before .before .before .before .pre in
     hinted-step ready here _ stepping (after-sweep-axis .sweep-axis .kept .1 .1 .1 .1 .1 .1 .0)
     (after-sweep-axis .sweep-axis .ensures (then-1 .if1 .taken) (stepping-sits ready here _ stepping .0) .reached)
@@ -28,11 +49,11 @@ rest-all-requires c κs =
     let few = ready .few in
     (ready .good, full, ready .climbs, omega arith, stepping-sits ready here _ stepping .1)
 
-same-length-2 : tie.Need-same-length-2
-same-length-2 c = search needs
+same-length-3 : tie.Need-same-length-3
+same-length-3 c = search needs
 
-returns-2 : tie.Need-returns-2
-returns-2 c =
+returns-3 : tie.Need-returns-3
+returns-3 c =
     let after-rest-all = c .before .before in
     let else-1 = after-rest-all .before .before in
     let (ready, full, here, stepping) = else-1 .before .before .before .before .before .before .pre in
@@ -42,9 +63,13 @@ pub sweep-last-spec : {M : Type 1} → statement M
 sweep-last-spec =
     tie.close
     (tie.spec
-    sweep-axis-requires
+    enum-known-label
+    sweep-name-requires
     same-length
     returns
-    rest-all-requires
+    sweep-axis-requires
     same-length-2
-    returns-2)
+    returns-2
+    rest-all-requires
+    same-length-3
+    returns-3)

@@ -16,7 +16,7 @@ levels-requires c κs = let pre = c .before .before .before .before .before .bef
 settle-requires : tie.Need-settle-requires
 unfolding Full
 settle-requires c κs =
-    let levelled = c .before .before .before .before .before in
+    let levelled = c .before .before .before .before .before .before in
     let cleared = levelled .before .before .before .before .before in
     let pre = cleared .before .before .before .before .before .before .pre in
     (pre .0, hinted-full (levelled .levels .ensures .0) (cleared .clear .kept .0 ∙ pre .1), levelled .levels .ensures .1)
@@ -29,7 +29,7 @@ same-length-2 c = search needs
 
 returns : tie.Need-returns
 returns c =
-    let levelled = c .before .before .before .before .before .before .before .before in (
+    let levelled = c .before .before .before .before .before .before .before .before .before in (
       rw (levelled .before .before .before .before .before .clear .ensures) at (hinted-settled (levelled .levels .ensures .0) (c .before .before .settle .ensures)),
       levelled .levels .ensures .1,
     )
