@@ -25,6 +25,7 @@ ghost use Rattle.fewest.specs.Pairs.{pairs};
 ghost use Rattle.fewest.specs.Frame.{links};
 ghost use Rattle.fewest.specs.Sweep.{sum};
 ghost use Rattle.fewest.specs.Work.{goalOf};
+ghost use Rattle.fewest.specs.Threads.{Threads};
 ghost use Rattle.asked.specs.Seek.{Bits};
 ghost use Rattle.calls.specs.Promise.{as-bytes, room-steps, Fits, RoomFits, Decided};
 ghost use Rattle.calls.specs.Inner.{Given, Numbered, Displayed, verdict};
@@ -34,8 +35,8 @@ pub const ROOM_STEPS: usize = 1024;
 
 const ROOM_BYTES: usize = 6 * ROOM_STEPS;
 
-// The steps at the start, and the path into the room where it holds so many. The byte table is scratch until the questions are
-// asked: it holds the threads that the path goes by.
+// The steps at the start, and the path into the room where it holds so many, by the threads in the byte table, which is scratch
+// until the questions are asked.
 fn show<'a>(
     site: &[u8],
     triples: usize,
@@ -47,18 +48,17 @@ fn show<'a>(
     first: &'a [u8; RECORDS],
     start: usize,
     end: usize,
-    scratch: &mut [u8],
+    scratch: &[u8],
     numbers: &[u8],
     room: &mut [u8],
 ) -> usize
-    requires { ⌜ Given (now site) (now rule) triples records (now starts) (links (now up) (now role) (now first)) × Numbered (now site) triples (now rule) (now up) (now role) (now first) (goalOf (Goal.End end)) (pairs (now numbers)) × (start < terms) × Fits as-bytes (now scratch) (now numbers) × RoomFits as-bytes (now room) ⌝ }
+    requires { ⌜ Given (now site) (now rule) triples records (now starts) (links (now up) (now role) (now first)) × Numbered (now site) triples (now rule) (now up) (now role) (now first) (goalOf (Goal.End end)) (pairs (now numbers)) × (start < terms) × Fits as-bytes (now scratch) (now numbers) × RoomFits as-bytes (now room) × Threads (now site) triples (now scratch) ⌝ }
     ensures { λ k. ⌜ Displayed as-bytes (now (site .entry)) triples (now (rule .entry)) records (links (now (up .entry)) (now (role .entry)) (now (first .entry))) (goalOf (Goal.End end)) (pairs (now (numbers .entry))) start room-steps (now (room .entry)) (now (room .exit)) k ⌝ }
 {
     let steps = number(numbers, records - 1, start);
     if ROOM_STEPS < steps {
         return steps;
     }
-    thread(site, triples, scratch);
     write_bytes(
         site,
         scratch,
@@ -104,7 +104,7 @@ pub fn finish(asked: &[u8], steps: usize, most: usize) -> Decision
     })
 }
 
-// What was admitted is answered: the numbers, the path by them, then the questions, with no table of ends.
+// What was admitted is answered: the numbers, the threads, the path by them, then the questions, with no table of ends.
 fn answer<'a>(
     site: &[u8],
     triples: usize,
@@ -138,6 +138,7 @@ fn answer<'a>(
         asked,
         numbers,
     );
+    thread(site, triples, asked);
     let steps = show(
         site,
         triples,

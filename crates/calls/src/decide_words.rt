@@ -26,7 +26,7 @@ ghost use Rattle.fewest.specs.Pairs.{pairs};
 ghost use Rattle.fewest.specs.Frame.{links};
 ghost use Rattle.fewest.specs.Table.{Full};
 ghost use Rattle.fewest.specs.Work.{goalOf};
-ghost use Rattle.asked.specs.Seek.{Whole};
+ghost use Rattle.fewest.specs.Threads.{Threads};
 ghost use Rattle.calls.specs.Promise.{as-words, Fits, Decided};
 ghost use Rattle.calls.specs.Inner.{Given, Numbered, Displayed};
 ghost use Rattle.calls.specs.Written.{Roomy};
@@ -44,11 +44,11 @@ fn show_words<'a>(
     start: usize,
     end: usize,
     most: usize,
-    scratch: &mut [u8],
+    scratch: &[u8],
     bytes: &[u8],
     room: &mut [u16],
 ) -> usize
-    requires { ⌜ Given (now site) (now rule) triples records (now starts) (links (now up) (now role) (now first)) × Numbered (now site) triples (now rule) (now up) (now role) (now first) (goalOf (Goal.End end)) (pairs (now bytes)) × (start < terms) × Whole (now scratch) × Full (now bytes) × Roomy as-words most (now room) ⌝ }
+    requires { ⌜ Given (now site) (now rule) triples records (now starts) (links (now up) (now role) (now first)) × Numbered (now site) triples (now rule) (now up) (now role) (now first) (goalOf (Goal.End end)) (pairs (now bytes)) × (start < terms) × Threads (now site) triples (now scratch) × Full (now bytes) × Roomy as-words most (now room) ⌝ }
     ensures { λ k. ⌜ Displayed as-words (now (site .entry)) triples (now (rule .entry)) records (links (now (up .entry)) (now (role .entry)) (now (first .entry))) (goalOf (Goal.End end)) (pairs (now (bytes .entry))) start most (now (room .entry)) (now (room .exit)) k ⌝ }
 {
     let steps = number(bytes, records - 1, start);
@@ -58,7 +58,6 @@ fn show_words<'a>(
     if most < steps {
         return steps;
     }
-    thread(site, triples, scratch);
     write_words(
         site,
         scratch,
@@ -115,6 +114,7 @@ fn answer_words<'a>(
         asked,
         bytes,
     );
+    thread(site, triples, asked);
     let steps = show_words(
         site,
         triples,

@@ -1,8 +1,9 @@
-// Both tables for a goal and a start: first the numbers, with the byte table as scratch, then the questions, whose tests the
-// numbers tell; and the ends, where a table of ends is lent.
+// Both tables for a goal and a start: first the numbers, with the byte table as scratch, then the threads in it, then the questions,
+// whose tests the numbers tell; and the ends, where a table of ends is lent.
 use asked::spread::ask;
 use fewest::Goal;
 use fewest::sweep::fill;
+use fewest::threads::thread;
 use records::RECORDS;
 use records::words::words_of;
 ghost use Prim.Native.Nat.{_<_};
@@ -46,6 +47,7 @@ pub fn evaluate<'a>(
         asked,
         numbers,
     );
+    thread(site, triples, asked);
     ask(
         site,
         &words,

@@ -26,16 +26,13 @@ returns c =
     let (steps, bounded) = c .before .number .ensures in
     record { steps = steps; bounded = bounded; written = λ some few. absurd (omega arith); unrelated = λ e. refl; too-long = λ h. refl }
 
-thread-requires : tie.Need-thread-requires
-thread-requires c κs = given-ready (c .before .before .before .before .before .before .before .before .pre .0) .good
-
 write-bytes-requires : tie.Need-write-bytes-requires
 unfolding none room-steps Full
 write-bytes-requires c κs =
-    let pre = c .before .before .before .before .before .before .before .before .before .before .before .before .before .pre in
-    let (steps, bounded) = c .before .before .before .before .before .before .before .number .ensures in (
+    let pre = c .before .before .before .before .before .before .before .before .pre in
+    let (steps, bounded) = c .before .before .number .ensures in (
       given-ready (pre .0),
-      c .before .before .before .before .thread .ensures (pre .3 .asked-fits),
+      pre .5,
       pre .3 .numbers-fit,
       pre .2,
       record { numbers = 3 * room-steps; long = pre .4; enough = omega arith },
@@ -45,13 +42,10 @@ write-bytes-requires c κs =
 same-length : tie.Need-same-length
 same-length c = search needs
 
-same-length-2 : tie.Need-same-length-2
-same-length-2 c = search needs
-
 returns-2 : tie.Need-returns-2
 unfolding none room-steps
 returns-2 c =
-    let (steps, bounded) = c .before .before .before .before .before .before .before .before .before .before .number .ensures in
+    let (steps, bounded) = c .before .before .before .before .before .number .ensures in
     record {
       steps = steps;
       bounded = bounded;
@@ -67,8 +61,6 @@ show-spec =
     sub-number
     number-requires
     returns
-    thread-requires
     write-bytes-requires
     same-length
-    same-length-2
     returns-2)

@@ -3,7 +3,6 @@ use mathlib.Core.Path.{refl}
 use native.Mathlib.Omega.{arith}
 use borrow.Author.Needs.{needs}
 use Rattle.meaning.specs.Limits.{none}
-use Rattle.asked.specs.Seek.{Whole}
 use Rattle.calls.proofs.Admits.{given-some, given-ready}
 use Rattle.calls.proofs.Deciding.{numbered-walkable}
 use Rattle.calls.proofs.decide_words.show_words.Statement.{statement}
@@ -29,16 +28,13 @@ returns-2 c =
     let (steps, bounded) = c .before .before .number .ensures in
     record { steps = steps; bounded = bounded; written = λ some few. absurd (omega arith); unrelated = λ e. refl; too-long = λ h. refl }
 
-thread-requires : tie.Need-thread-requires
-thread-requires c κs = given-ready (c .before .before .before .before .before .before .before .before .before .pre .0) .good
-
 write-words-requires : tie.Need-write-words-requires
-unfolding none Whole
+unfolding none
 write-words-requires c κs =
-    let pre = c .before .before .before .before .before .before .before .before .before .before .before .before .before .before .pre in
-    let (steps, bounded) = c .before .before .before .before .before .before .before .before .number .ensures in (
+    let pre = c .before .before .before .before .before .before .before .before .before .pre in
+    let (steps, bounded) = c .before .before .before .number .ensures in (
       given-ready (pre .0),
-      c .before .before .before .before .thread .ensures (pre .3),
+      pre .3,
       pre .4,
       pre .2,
       record { numbers = pre .5 .numbers; long = pre .5 .long; enough = omega (arith, pre .5 .enough) },
@@ -48,13 +44,10 @@ write-words-requires c κs =
 same-length : tie.Need-same-length
 same-length c = search needs
 
-same-length-2 : tie.Need-same-length-2
-same-length-2 c = search needs
-
 returns-3 : tie.Need-returns-3
 unfolding none
 returns-3 c =
-    let (steps, bounded) = c .before .before .before .before .before .before .before .before .before .before .before .number .ensures in
+    let (steps, bounded) = c .before .before .before .before .before .before .number .ensures in
     record {
       steps = steps;
       bounded = bounded;
@@ -71,8 +64,6 @@ show-words-spec =
     number-requires
     returns
     returns-2
-    thread-requires
     write-words-requires
     same-length
-    same-length-2
     returns-3)
