@@ -13,13 +13,12 @@ use Rattle.meaning.specs.Move.{Axis, self, Move, staying, going, coming, any, o
 use Rattle.meaning.specs.Move as move
 use Rattle.records.specs.declared.Label.{Label}
 use Rattle.records.specs.declared.Label.the-variants.{Any, Term, Test}
-use Rattle.records.specs.Words.{WordsOf}
-use Rattle.fewest.specs.Frame.{Frame, frame}
+use Rattle.fewest.specs.Frame.{Frame}
 use Rattle.fewest.specs.Offer.{Work, copying, resting}
 use Rattle.fewest.specs.Work.{workOf, Nameless}
 use Rattle.fewest.proofs.ByTriples.{Takes, by-triple}
 use Rattle.asked.specs.Mark.{Marks, marks, Marked, Leads, by-step, by-test, by-rest, Wants, follows, tests, enters, asking, Marking, stay, CalmAt}
-use Rattle.asked.specs.Seek.{Whole, Bits, OneMarked, AllNext, CalmBy, Goes, along, at-name, in-place, Pursued}
+use Rattle.asked.specs.Seek.{Whole, Bits, OneMarked, AllNext, CalmBy, Goes, along, in-place, Pursued}
 use Rattle.asked.specs.Chase.{WorkAsked, Stay, as-empty, as-step, StayAsked}
 use Rattle.asked.proofs.Marking.{never-leads}
 use Rattle.asked.proofs.OneMark.{one-asked}
