@@ -22,7 +22,7 @@ use Rattle.fewest.specs.Work.{workOf, Nameless}
 use Rattle.fewest.proofs.ByTriples.{Takes, by-triple}
 use Rattle.fewest.proofs.Tells.{told, told-not}
 use Rattle.asked.specs.Mark.{Marks, marks, Marked, Leads, by-step, by-test, by-rest, Wants, follows, tests, enters, asking, Marking, stay, CalmAt}
-use Rattle.asked.specs.Seek.{Whole, Bits, OneMarked, AllNext, CalmBy, Goes, along, at-name, in-place, Pursued}
+use Rattle.asked.specs.Seek.{Whole, Bits, OneMarked, AllNext, CalmBy, Goes, along, in-place, Pursued}
 use Rattle.asked.specs.Chase.{WorkAsked, Stay, as-empty, as-step, StayAsked}
 use Rattle.asked.proofs.Marking.{never-leads}
 use Rattle.asked.proofs.OneMark.{one-asked}

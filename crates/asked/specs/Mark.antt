@@ -1,6 +1,6 @@
 -- The byte table and the ends, by marks: what the marks ask for, and when nothing asked for is unmarked.
 -- Every loop only marks what is asked for; when each question that is marked was asked on, the marks are the questions.
-use Prim.Native.Nat.{ℕ, _+_, _*_, _-_, _<_}
+use Prim.Native.Nat.{ℕ, _*_, _-_, _<_}
 use mathlib.Core.Path.{_≡_}
 use mathlib.Core.List.{List, map, List·Memᴰ}
 use lib.ListN.{length, getD, set, replicate}

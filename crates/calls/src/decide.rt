@@ -24,6 +24,7 @@ ghost use Rattle.fewest.specs.Frame.{links};
 ghost use Rattle.fewest.specs.Sweep.{sum};
 ghost use Rattle.fewest.specs.Threads.{Threads};
 ghost use Rattle.fewest.specs.Work.{goalOf};
+ghost use Rattle.fewest.specs.Threads.{Threads};
 ghost use Rattle.asked.specs.Seek.{Bits};
 ghost use Rattle.calls.specs.Promise.{as-bytes, room-steps, Fits, RoomFits, Decided};
 ghost use Rattle.calls.specs.Inner.{Given, Numbered, Displayed, verdict};

@@ -25,7 +25,7 @@ ghost use Rattle.fewest.specs.Frame.{links};
 ghost use Rattle.fewest.specs.Table.{Full};
 ghost use Rattle.fewest.specs.Threads.{Threads};
 ghost use Rattle.fewest.specs.Work.{goalOf};
-ghost use Rattle.asked.specs.Seek.{Whole};
+ghost use Rattle.fewest.specs.Threads.{Threads};
 ghost use Rattle.calls.specs.Promise.{as-words, Fits, Decided};
 ghost use Rattle.calls.specs.Inner.{Given, Numbered, Displayed};
 ghost use Rattle.calls.specs.Written.{Roomy};

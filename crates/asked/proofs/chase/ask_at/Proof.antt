@@ -4,7 +4,6 @@ use Prim.Native.Nat.{_+_, _-_, _≤_}
 use mathlib.Core.Path.{_≡_}
 use native.Mathlib.Omega.{arith}
 use Rattle.meaning.specs.Fewest.{anywhere}
-use Rattle.fewest.specs.Lows.{lows}
 use Rattle.fewest.specs.Offer.{view}
 use Rattle.fewest.specs.Pairs.{pairs}
 use Rattle.fewest.proofs.Lows.{length-lows}

@@ -6,7 +6,7 @@ use Rattle.meaning.specs.Limits.{terms}
 use Rattle.meaning.specs.Fewest.{anywhere}
 use Rattle.fewest.specs.Pairs.{pairs}
 use Rattle.asked.specs.Mark.{blank}
-use Rattle.asked.specs.Serve.{serveds, Aside, most, Picked}
+use Rattle.asked.specs.Serve.{serveds, most, Picked}
 use Rattle.asked.specs.Chase.{Chased}
 use Rattle.asked.proofs.Marking.{marks-on-long}
 use Rattle.asked.proofs.LowBits.{same-long}

@@ -1,6 +1,6 @@
 -- `asked::wait::waiting` meets its contract: none that was passed waits.
 -- The measure is what is left of the bytes.
-use Prim.Native.Nat.{_-_, _<_, _≤_}
+use Prim.Native.Nat.{_-_, _≤_}
 use native.Mathlib.Omega.{arith}
 use borrow.Author.Count.{below-more}
 use Rattle.meaning.specs.Limits.{terms, records}

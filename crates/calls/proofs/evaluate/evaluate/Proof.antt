@@ -1,5 +1,5 @@
--- `calls::evaluate::evaluate` meets its contract: what `fill` settles and what `ask` marks over the words of the site; neither
--- changes a table's length.
+-- `calls::evaluate::evaluate` meets its contract: what `fill` settles and what `ask` marks by the threads, both over the words of the
+-- site; none of them changes a table's length.
 use mathlib.Core.Path.{_∙_}
 use borrow.Author.Needs.{needs}
 use Rattle.fewest.specs.Table.{Full}
@@ -11,20 +11,21 @@ words-of-requires : tie.Need-words-of-requires
 words-of-requires c κs = c .before .before .before .before .before .pre .0 .good
 
 fill-requires : tie.Need-fill-requires
-unfolding Whole
 fill-requires c κs =
     let shown = c .before .before .before in
     let pre = shown .before .before .before .before .before .before .pre in
-    (pre .0, pre .1, pre .2)
+    (pre .0, pre .1, shown .words-of .ensures)
+
+thread-requires : tie.Need-thread-requires
+thread-requires c κs = c .before .before .before .before .before .before .before .before .before .before .before .before .before .before .before .pre .0 .good
 
 ask-requires : tie.Need-ask-requires
 unfolding Full Whole
 ask-requires c κs =
-    let filled = c .before .before .before .before .before .before .before .before in
-    let shown = filled .before .before .before .before in
-    let pre = shown .before .before .before .before .before .before .pre in
-    let tables = filled .fill .kept .1 .1 .1 .1 .1 .1 .1 .1 .1 in
-    (pre .0, tables .1 .0 ∙ pre .1, tables .0 ∙ pre .2, pre .3, pre .4, shown .words-of .ensures)
+    let pre = c .before .before .before .before .before .before .before .before .before .before .before .before .before .before .before .before .before .before .before .before .before .before .pre in
+    let tables = c .before .before .before .before .before .before .before .before .before .before .before .before .fill .kept .1 .1 .1 .1 .1 .1 .1 .1 .1 .1 in
+    let asked = tables .0 ∙ pre .2 in
+    (pre .0, tables .1 .0 ∙ pre .1, c .before .before .before .before .before .before .thread .kept .1 .1 .0 ∙ asked, pre .3, pre .4, c .before .before .before .before .before .before .before .before .before .before .before .before .before .before .before .before .words-of .ensures, c .before .before .before .before .before .before .thread .ensures asked)
 
 same-length : tie.Need-same-length
 same-length c = search needs
@@ -40,4 +41,4 @@ returns c = search needs
 
 pub evaluate-spec : {M : Type 1} → statement M
 evaluate-spec =
-    tie.close (tie.spec words-of-requires fill-requires ask-requires same-length same-length-2 same-length-3 returns)
+    tie.close (tie.spec words-of-requires fill-requires thread-requires ask-requires same-length same-length-2 same-length-3 returns)
