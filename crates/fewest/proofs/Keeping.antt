@@ -48,20 +48,20 @@ kept-byte X i v behind = record { long = long; same = same }
     ]
 
 module _ {n : ℕ} (few : n ≤ triples) {X Y : List ℕ} (kept : Kept X Y) where
-  firsts-kept : {key : ℕ → ℕ} {at-first k : ℕ} → at-first + terms ≤ free → Firsts key n at-first (cells X) k → Firsts key n at-first (cells Y) k
-  firsts-kept {at-first = at-first} firsts old = λ t h. rw (kept .same (at-first + t) (omega arith)) (old t h)
+  firsts-kept : {key : ℕ → ℕ} {k : ℕ} (at-first : ℕ) → at-first + terms ≤ free → Firsts key n at-first (cells X) k → Firsts key n at-first (cells Y) k
+  firsts-kept at-first firsts old = λ t h. rw (kept .same (at-first + t) (omega arith)) (old t h)
 
   threaded-kept : {key : ℕ → ℕ} {at-first at-next k : ℕ} → at-first + terms ≤ free → at-next + triples ≤ free →
       Threaded key n at-first at-next (cells X) k → Threaded key n at-first at-next (cells Y) k
   threaded-kept {key} {at-first} {at-next} {k} firsts nexts old = record {
-    first = firsts-kept {key = key} {k = k} firsts (old .first);
+    first = firsts-kept at-first firsts (old .first);
     next = λ i l h. rw (kept .same (at-next + i) (omega arith)) (old .next i l h);
   }
 
   -- Threads that are kept stand.
   pub threads-kept : (b : List ℕ) → Threads b n X → Threads b n Y
   threads-kept b threads = record {
-    subjects = firsts-kept {key = subjectOf b n} {at-first = subject-first} {k = 0} (omega arith) (threads .subjects);
+    subjects = firsts-kept subject-first (omega arith) (threads .subjects);
     predicates = threaded-kept (omega arith) (omega arith) (threads .predicates);
     objects = threaded-kept (omega arith) (omega arith) (threads .objects);
   }
