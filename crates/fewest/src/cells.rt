@@ -76,6 +76,21 @@ pub fn put_set(scratch: &mut [u8], i: usize, set: usize)
     scratch[i + i + 1] = (set % BASE) as u8;
 }
 
+// The cells from one to another, which are behind the threads, take a set, if all of them are there.
+pub fn put_sets(scratch: &mut [u8], from: usize, to: usize, set: usize)
+    requires { ⌜ free ≤ from ⌝ }
+    ensures { λ _. ⌜ Kept (now (scratch .entry)) (now (scratch .exit)) ⌝ }
+{
+    if scratch.len() / 2 < to {
+        return;
+    }
+    let mut i = from;
+    while i < to {
+        put_set(scratch, i, set);
+        i += 1;
+    }
+}
+
 // A byte for itself, as the terms of a list stand.
 pub fn byte_at(scratch: &[u8], i: usize) -> usize {
     if scratch.len() <= i {

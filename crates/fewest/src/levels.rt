@@ -4,6 +4,7 @@ use crate::Goal;
 use crate::cells::byte_at;
 use crate::cells::put_byte;
 use crate::cells::put_set;
+use crate::cells::put_sets;
 use crate::cells::set_at;
 use crate::left::left;
 use crate::links::AS_WHOLE;
@@ -15,7 +16,7 @@ use crate::look::parts_of;
 use crate::look::rest;
 use crate::sets::DONE;
 use crate::sets::LIST;
-use crate::sets::OPEN;
+use crate::sets::NEW;
 use crate::sets::before;
 use crate::sets::befores;
 use crate::sets::ends_in_star;
@@ -384,9 +385,10 @@ fn climb<'a>(
     }
 }
 
-// Of these steps those after which something is left at t. Outside the vocabulary, where a star does not pass empty, only those
-// are open.
+// Of these steps those that may be open at t: all where t stands in triple k. Outside the vocabulary a star does not pass empty,
+// and only those are open after which something is left.
 fn possible<'a>(
+    triples: usize,
     up: &'a [u8; RECORDS],
     role: &'a [u8; RECORDS],
     goal: Goal,
@@ -394,9 +396,13 @@ fn possible<'a>(
     numbers: &[u8],
     set: usize,
     t: usize,
+    k: usize,
 ) -> usize
     requires { ⌜ Full (now numbers) × Climbs records (now up) (now role) × (t < terms) ⌝ }
 {
+    if k < triples {
+        return set;
+    }
     let mut rest = set;
     let mut got = 0;
     while rest != 0 {
@@ -426,20 +432,13 @@ fn possible_one<'a>(
     0
 }
 
-// These steps are open at t at the level of this side, but for those that were open before. The length of the level.
-fn open(scratch: &mut [u8], side: usize, len: usize, set: usize, t: usize) -> usize
+// The entry of a step at t is new: that is noted for the level of this side, whose length is handed on. The step is the set `one`.
+fn note(scratch: &mut [u8], side: usize, len: usize, one: usize, t: usize) -> usize
     requires { ⌜ t < terms ⌝ }
     ensures { λ _. ⌜ Kept (now (scratch .entry)) (now (scratch .exit)) ⌝ }
 {
-    let done = set_at(scratch, DONE + t);
-    let all = set | done;
-    let new = less(all, done);
-    if new == 0 {
-        return len;
-    }
-    let had = set_at(scratch, OPEN + side % 2 * TERMS + t);
-    put_set(scratch, DONE + t, all);
-    put_set(scratch, OPEN + side % 2 * TERMS + t, had | new);
+    let had = set_at(scratch, NEW + side % 2 * TERMS + t);
+    put_set(scratch, NEW + side % 2 * TERMS + t, had | one);
     if had != 0 {
         return len;
     }
@@ -450,8 +449,56 @@ fn open(scratch: &mut [u8], side: usize, len: usize, set: usize, t: usize) -> us
     len + 1
 }
 
-// The entry of step record r at t is new: what may come before it is open at t at the next level, whose length is handed on.
+// The entries of these steps at t, which stands in triple k, are new, and climb. The steps that may come before one of them.
 fn rise<'a>(
+    site: &[u8],
+    triples: usize,
+    rule: &[u8],
+    starts: &[u8; RECORDS],
+    count: usize,
+    up: &'a [u8; RECORDS],
+    role: &'a [u8; RECORDS],
+    first: &'a [u8; RECORDS],
+    goal: Goal,
+    scratch: &[u8],
+    numbers: &mut [u8],
+    new: usize,
+    t: usize,
+    k: usize,
+) -> usize
+    requires { ⌜ Ready (now site) triples (now rule) (now starts) count (now up) (now role) (now first) × Full (now numbers) × (t < terms) ⌝ }
+    ensures { λ _. ⌜ Hinted (now (site .entry)) triples (now (rule .entry)) (now (up .entry)) (now (role .entry)) (now (first .entry)) (goalOf goal) (now (numbers .entry)) (now (numbers .exit)) ⌝ }
+{
+    let mut all = 0;
+    let mut rest = new;
+    while rest != 0 {
+        let bit = usize::trailing_zeros(rest) as usize % RECORDS;
+        rest = rest & (rest - 1);
+        let r = step_of(scratch, bit);
+        climb(
+            site,
+            triples,
+            rule,
+            starts,
+            count,
+            up,
+            role,
+            first,
+            goal,
+            scratch,
+            numbers,
+            r,
+            t,
+            k,
+        );
+        all = all | before(scratch, r);
+    }
+    all
+}
+
+// What is new at u at the level of this side climbs, and gives way to what is open there: the steps that may come before, and those
+// of `also`, but for those that were open earlier.
+fn rise_term<'a>(
     site: &[u8],
     triples: usize,
     rule: &[u8],
@@ -463,37 +510,93 @@ fn rise<'a>(
     goal: Goal,
     scratch: &mut [u8],
     numbers: &mut [u8],
-    r: usize,
-    t: usize,
+    also: usize,
+    u: usize,
     side: usize,
-    len: usize,
-) -> usize
-    requires { ⌜ Ready (now site) triples (now rule) (now starts) count (now up) (now role) (now first) × Full (now numbers) × (r < records) × (t < terms) ⌝ }
+)
+    requires { ⌜ Ready (now site) triples (now rule) (now starts) count (now up) (now role) (now first) × Full (now numbers) ⌝ }
     ensures { λ _. ⌜ Levelled (now (site .entry)) triples (now (rule .entry)) (now (up .entry)) (now (role .entry)) (now (first .entry)) (goalOf goal) (now (numbers .entry)) (now (numbers .exit)) (now (scratch .entry)) (now (scratch .exit)) ⌝ }
 {
-    let k = witness(scratch, t);
-    climb(
-        site,
+    if TERMS <= u {
+        return;
+    }
+    let new = set_at(scratch, NEW + side % 2 * TERMS + u);
+    let k = witness(scratch, u);
+    let all = also
+        | rise(
+            site,
+            triples,
+            rule,
+            starts,
+            count,
+            up,
+            role,
+            first,
+            goal,
+            scratch,
+            numbers,
+            new,
+            u,
+            k,
+        );
+    let done = set_at(scratch, DONE + u);
+    let ever = all | done;
+    let set = possible(
         triples,
-        rule,
-        starts,
-        count,
         up,
         role,
-        first,
         goal,
         scratch,
         numbers,
-        r,
-        t,
+        less(ever, done),
+        u,
         k,
     );
-    let all = before(scratch, r);
-    if k < triples {
-        return open(scratch, side, len, all, t);
+    put_set(scratch, DONE + u, set | done);
+    put_set(scratch, NEW + side % 2 * TERMS + u, set);
+}
+
+// That at each term of a level.
+fn rise_level<'a>(
+    site: &[u8],
+    triples: usize,
+    rule: &[u8],
+    starts: &[u8; RECORDS],
+    count: usize,
+    up: &'a [u8; RECORDS],
+    role: &'a [u8; RECORDS],
+    first: &'a [u8; RECORDS],
+    goal: Goal,
+    scratch: &mut [u8],
+    numbers: &mut [u8],
+    also: usize,
+    side: usize,
+    len: usize,
+)
+    requires { ⌜ Ready (now site) triples (now rule) (now starts) count (now up) (now role) (now first) × Full (now numbers) ⌝ }
+    ensures { λ _. ⌜ Levelled (now (site .entry)) triples (now (rule .entry)) (now (up .entry)) (now (role .entry)) (now (first .entry)) (goalOf goal) (now (numbers .entry)) (now (numbers .exit)) (now (scratch .entry)) (now (scratch .exit)) ⌝ }
+{
+    let mut i = 0;
+    while i < len {
+        let u = byte_at(scratch, LIST + LIST + side % 2 * TERMS + i % TERMS);
+        rise_term(
+            site,
+            triples,
+            rule,
+            starts,
+            count,
+            up,
+            role,
+            first,
+            goal,
+            scratch,
+            numbers,
+            also,
+            u,
+            side,
+        );
+        i += 1;
     }
-    let set = possible(up, role, goal, scratch, numbers, all, t);
-    open(scratch, side, len, set, t)
 }
 
 // A move for the step of record r: true where it gives an entry to a term that had none.
@@ -519,7 +622,7 @@ fn reach<'a>(
     false
 }
 
-// Triple k for the step of record r.
+// Triple k for the step of record r, which is the set `one`.
 fn take<'a>(
     site: &[u8],
     triples: usize,
@@ -535,6 +638,7 @@ fn take<'a>(
     step: Step,
     parts: Parts,
     r: usize,
+    one: usize,
     k: usize,
     side: usize,
     len: usize,
@@ -546,23 +650,7 @@ fn take<'a>(
     let m = move_at(site, k, parts);
     let t = m.from;
     if reach(m, label, up, role, goal, numbers, r) {
-        return rise(
-            site,
-            triples,
-            rule,
-            starts,
-            count,
-            up,
-            role,
-            first,
-            goal,
-            scratch,
-            numbers,
-            r,
-            t,
-            side,
-            len,
-        );
+        return note(scratch, side, len, one, t);
     }
     len
 }
@@ -582,6 +670,7 @@ fn take_all<'a>(
     numbers: &mut [u8],
     step: Step,
     r: usize,
+    one: usize,
     u: usize,
     side: usize,
     was: usize,
@@ -609,6 +698,7 @@ fn take_all<'a>(
             step,
             parts,
             r,
+            one,
             k,
             side,
             len,
@@ -658,6 +748,7 @@ fn take_step<'a>(
     numbers: &mut [u8],
     step: Step,
     r: usize,
+    one: usize,
     u: usize,
     side: usize,
     len: usize,
@@ -680,6 +771,7 @@ fn take_step<'a>(
             numbers,
             step,
             r,
+            one,
             u,
             side,
             len,
@@ -688,23 +780,7 @@ fn take_step<'a>(
     let label = step.label;
     let k = witness(scratch, u);
     if rest_at(site, triples, k, up, role, goal, numbers, label, r, u) {
-        return rise(
-            site,
-            triples,
-            rule,
-            starts,
-            count,
-            up,
-            role,
-            first,
-            goal,
-            scratch,
-            numbers,
-            r,
-            u,
-            side,
-            len,
-        );
+        return note(scratch, side, len, one, u);
     }
     len
 }
@@ -723,6 +799,7 @@ fn take_record<'a>(
     scratch: &mut [u8],
     numbers: &mut [u8],
     r: usize,
+    one: usize,
     u: usize,
     side: usize,
     len: usize,
@@ -748,6 +825,7 @@ fn take_record<'a>(
             numbers,
             step,
             r,
+            one,
             u,
             side,
             len,
@@ -797,6 +875,7 @@ fn take_set<'a>(
             scratch,
             numbers,
             step_of(scratch, bit),
+            1usize << bit,
             u,
             side,
             len,
@@ -805,7 +884,7 @@ fn take_set<'a>(
     len
 }
 
-// What is open at u at the level of this side is taken; what that opens stands at the next.
+// What is open at u at the level of this side is taken; what is new then stands at the next.
 fn take_term<'a>(
     site: &[u8],
     triples: usize,
@@ -828,8 +907,8 @@ fn take_term<'a>(
     if TERMS <= u {
         return len;
     }
-    let set = set_at(scratch, OPEN + side % 2 * TERMS + u);
-    put_set(scratch, OPEN + side % 2 * TERMS + u, 0);
+    let set = set_at(scratch, NEW + side % 2 * TERMS + u);
+    put_set(scratch, NEW + side % 2 * TERMS + u, 0);
     take_set(
         site,
         triples,
@@ -849,8 +928,8 @@ fn take_term<'a>(
     )
 }
 
-// One level: each of its terms. The length of the next.
-fn level<'a>(
+// That at each term of a level. The length of the next.
+fn take_level<'a>(
     site: &[u8],
     triples: usize,
     rule: &[u8],
@@ -893,7 +972,7 @@ fn level<'a>(
     next
 }
 
-// The body of root b may finish at t: what may be last in it is open there.
+// The body of root b may finish at t alone: there it may pass empty, and the first level is t. Its length.
 fn begin<'a>(
     site: &[u8],
     triples: usize,
@@ -908,18 +987,14 @@ fn begin<'a>(
     numbers: &mut [u8],
     b: usize,
     t: usize,
-    len: usize,
 ) -> usize
     requires { ⌜ Ready (now site) triples (now rule) (now starts) count (now up) (now role) (now first) × Full (now numbers) × (t < terms) ⌝ }
     ensures { λ _. ⌜ Levelled (now (site .entry)) triples (now (rule .entry)) (now (up .entry)) (now (role .entry)) (now (first .entry)) (goalOf goal) (now (numbers .entry)) (now (numbers .exit)) (now (scratch .entry)) (now (scratch .exit)) ⌝ }
 {
+    put_sets(scratch, DONE, LIST, 0);
+    put_byte(scratch, LIST + LIST, t);
     let k = witness(scratch, t);
-    let all = last_in(scratch, b);
-    if triples <= k {
-        let set = possible(up, role, goal, scratch, numbers, all, t);
-        return open(scratch, 0, len, set, t);
-    }
-    if ends_in_star(scratch, b) {
+    if passes(scratch, b, triples, k) {
         fill_within(
             site,
             triples,
@@ -937,7 +1012,7 @@ fn begin<'a>(
             k,
         );
     }
-    open(scratch, 0, len, all, t)
+    1
 }
 
 // A body that ends with a star may finish at t: there the star may pass empty, and what may be last is not opened again. Outside
@@ -962,6 +1037,7 @@ fn finish_at<'a>(
 {
     let k = witness(scratch, t);
     if triples <= k {
+        put_set(scratch, DONE + t, 0);
         return;
     }
     fill_within(
@@ -1022,17 +1098,6 @@ fn finish_all<'a>(
     }
 }
 
-// These steps are not opened again at any term.
-fn close_all(scratch: &mut [u8], set: usize)
-    ensures { λ _. ⌜ Kept (now (scratch .entry)) (now (scratch .exit)) ⌝ }
-{
-    let mut t = 0;
-    while t < TERMS {
-        put_set(scratch, DONE + t, set);
-        t += 1;
-    }
-}
-
 // The body of root b may finish anywhere: what may be last in it is swept, and not opened again.
 fn finish<'a>(
     site: &[u8],
@@ -1068,7 +1133,7 @@ fn finish<'a>(
         );
         return;
     }
-    close_all(scratch, last_in(scratch, b));
+    put_sets(scratch, DONE, LIST, last_in(scratch, b));
 }
 
 // A self step of record r at each term.
@@ -1177,92 +1242,32 @@ fn sweep_if<'a>(
     }
 }
 
-// What may come before step record r, if it has an entry at t, is open there at the first level, whose length is handed on.
-fn rise_if<'a>(
-    site: &[u8],
-    triples: usize,
-    rule: &[u8],
-    starts: &[u8; RECORDS],
-    count: usize,
-    up: &'a [u8; RECORDS],
-    role: &'a [u8; RECORDS],
-    first: &'a [u8; RECORDS],
-    goal: Goal,
-    scratch: &mut [u8],
-    numbers: &mut [u8],
-    r: usize,
-    t: usize,
-    len: usize,
-) -> usize
-    requires { ⌜ Ready (now site) triples (now rule) (now starts) count (now up) (now role) (now first) × Full (now numbers) × (r < records) × (t < terms) ⌝ }
-    ensures { λ _. ⌜ Levelled (now (site .entry)) triples (now (rule .entry)) (now (up .entry)) (now (role .entry)) (now (first .entry)) (goalOf goal) (now (numbers .entry)) (now (numbers .exit)) (now (scratch .entry)) (now (scratch .exit)) ⌝ }
+// The entry of step record r at t, if it has one, is new at the first level, whose length is handed on.
+fn note_if(numbers: &[u8], scratch: &mut [u8], r: usize, one: usize, t: usize, len: usize) -> usize
+    requires { ⌜ Full (now numbers) × (r < records) × (t < terms) ⌝ }
+    ensures { λ _. ⌜ Kept (now (scratch .entry)) (now (scratch .exit)) ⌝ }
 {
     if number(numbers, r, t) < NONE {
-        return rise(
-            site,
-            triples,
-            rule,
-            starts,
-            count,
-            up,
-            role,
-            first,
-            goal,
-            scratch,
-            numbers,
-            r,
-            t,
-            0,
-            len,
-        );
+        return note(scratch, 0, len, one, t);
     }
     len
 }
 
 // That at each term.
-fn rise_all<'a>(
-    site: &[u8],
-    triples: usize,
-    rule: &[u8],
-    starts: &[u8; RECORDS],
-    count: usize,
-    up: &'a [u8; RECORDS],
-    role: &'a [u8; RECORDS],
-    first: &'a [u8; RECORDS],
-    goal: Goal,
-    scratch: &mut [u8],
-    numbers: &mut [u8],
-    r: usize,
-    was: usize,
-) -> usize
-    requires { ⌜ Ready (now site) triples (now rule) (now starts) count (now up) (now role) (now first) × Full (now numbers) × (r < records) ⌝ }
-    ensures { λ _. ⌜ Levelled (now (site .entry)) triples (now (rule .entry)) (now (up .entry)) (now (role .entry)) (now (first .entry)) (goalOf goal) (now (numbers .entry)) (now (numbers .exit)) (now (scratch .entry)) (now (scratch .exit)) ⌝ }
+fn note_all(numbers: &[u8], scratch: &mut [u8], r: usize, one: usize, was: usize) -> usize
+    requires { ⌜ Full (now numbers) × (r < records) ⌝ }
+    ensures { λ _. ⌜ Kept (now (scratch .entry)) (now (scratch .exit)) ⌝ }
 {
     let mut len = was;
     let mut t = 0;
     while t < TERMS {
-        len = rise_if(
-            site,
-            triples,
-            rule,
-            starts,
-            count,
-            up,
-            role,
-            first,
-            goal,
-            scratch,
-            numbers,
-            r,
-            t,
-            len,
-        );
+        len = note_if(numbers, scratch, r, one, t, len);
         t += 1;
     }
     len
 }
 
-// The first level of a body that may finish anywhere: what may be last in it is swept, and what comes before is open.
+// The first level of a body that may finish anywhere: what may be last in it is swept, and what it gives is new.
 fn begin_all<'a>(
     site: &[u8],
     triples: usize,
@@ -1314,21 +1319,7 @@ fn begin_all<'a>(
             numbers,
             r,
         );
-        len = rise_all(
-            site,
-            triples,
-            rule,
-            starts,
-            count,
-            up,
-            role,
-            first,
-            goal,
-            scratch,
-            numbers,
-            r,
-            len,
-        );
+        len = note_all(numbers, scratch, r, 1usize << bit, len);
     }
     len
 }
@@ -1422,24 +1413,23 @@ fn begin_if<'a>(
         numbers,
         b,
         end,
-        0,
     )
 }
 
-// No step is open, and none ever was.
-fn shut_all(scratch: &mut [u8])
-    ensures { λ _. ⌜ Kept (now (scratch .entry)) (now (scratch .exit)) ⌝ }
+// What is open at the first level of the body of root b with nothing new: what may be last in it, if it finishes at the end alone.
+fn opening<'a>(role: &'a [u8; RECORDS], goal: Goal, scratch: &[u8], b: usize) -> usize
+    requires { ⌜ b < records ⌝ }
 {
-    let mut t = 0;
-    while t < TERMS {
-        put_set(scratch, OPEN + t, 0);
-        put_set(scratch, OPEN + TERMS + t, 0);
-        put_set(scratch, DONE + t, 0);
-        t += 1;
+    if role[b] == AS_WHOLE {
+        if let Goal::End(_) = goal {
+            return last_in(scratch, b);
+        }
     }
+    0
 }
 
-// Level after level, until one is empty; there are never more levels than entries.
+// Level after level, until one is empty; there are never more levels than entries. All of a level rises before any of it is taken,
+// for what is taken is new at the next alone. At the first, the steps of `opening` are open too.
 fn run_levels<'a>(
     site: &[u8],
     triples: usize,
@@ -1453,17 +1443,35 @@ fn run_levels<'a>(
     scratch: &mut [u8],
     numbers: &mut [u8],
     begun: usize,
+    opening: usize,
 )
     requires { ⌜ Ready (now site) triples (now rule) (now starts) count (now up) (now role) (now first) × Full (now numbers) ⌝ }
     ensures { λ _. ⌜ Levelled (now (site .entry)) triples (now (rule .entry)) (now (up .entry)) (now (role .entry)) (now (first .entry)) (goalOf goal) (now (numbers .entry)) (now (numbers .exit)) (now (scratch .entry)) (now (scratch .exit)) ⌝ }
 {
     let mut len = begun;
     let mut side = 0;
+    let mut also = opening;
     while 0 < len {
         if RECORDS * TERMS <= side {
             return;
         }
-        len = level(
+        rise_level(
+            site,
+            triples,
+            rule,
+            starts,
+            count,
+            up,
+            role,
+            first,
+            goal,
+            scratch,
+            numbers,
+            also,
+            side,
+            len,
+        );
+        len = take_level(
             site,
             triples,
             rule,
@@ -1479,10 +1487,11 @@ fn run_levels<'a>(
             len,
         );
         side += 1;
+        also = 0;
     }
 }
 
-// What may be last and what may come before in the body of root b; no step of it is open yet.
+// What may be last and what may come before in the body of root b.
 fn prepare<'a>(
     rule: &[u8],
     starts: &[u8; RECORDS],
@@ -1495,7 +1504,6 @@ fn prepare<'a>(
 {
     lasts(rule, starts, first, b, scratch);
     befores(rule, starts, first, b, scratch);
-    shut_all(scratch);
 }
 
 // The entries of the body of root b.
@@ -1531,6 +1539,7 @@ fn search<'a>(
         numbers,
         b,
     );
+    let opens = opening(role, goal, scratch, b);
     run_levels(
         site,
         triples,
@@ -1544,6 +1553,7 @@ fn search<'a>(
         scratch,
         numbers,
         begun,
+        opens,
     )
 }
 
@@ -1643,6 +1653,7 @@ pub fn levels<'a>(
     thread(site, triples, scratch);
     sizes(rule, starts, count, first, scratch);
     orders(rule, starts, count, first, scratch);
+    put_sets(scratch, NEW, DONE, 0);
     search_all(
         site,
         triples,

@@ -13,11 +13,11 @@ ghost use Prim.Native.Nat.{_<_};
 ghost use Rattle.meaning.specs.Limits.{records};
 ghost use Rattle.fewest.specs.Kept.{Kept};
 
-// Scratch behind the threads, in cells: for two levels by turns, which steps are open at a term; which ever were; the lists of both
-// levels, a byte for a term; and the columns of the hints.
-pub const OPEN: usize = FREE;
+// Scratch behind the threads, in cells: for two levels by turns, which steps are new at a term and, once they have risen, which are
+// open; which ever were open; the lists of both levels, a byte for a term; and the columns of the hints.
+pub const NEW: usize = FREE;
 
-pub const DONE: usize = OPEN + TERMS + TERMS;
+pub const DONE: usize = NEW + TERMS + TERMS;
 
 pub const LIST: usize = DONE + TERMS;
 

@@ -6,7 +6,7 @@ use lib.Count.{trailing-le}
 use lib.Bits.{and-le-r}
 use Rattle.fewest.specs.Work.{goalOf}
 use Rattle.fewest.specs.Kept.{Levelled}
-use Rattle.fewest.proofs.Keeping.{levelled-none, levelled-numbers, levelled-then, levelled-full}
+use Rattle.fewest.proofs.Keeping.{levelled-none, levelled-numbers, levelled-scratch, levelled-then, levelled-full}
 use borrow.Author.Needs.{needs}
 use native.Mathlib.Omega.{arith}
 use Rattle.fewest.proofs.levels.begin_all.Statement.{statement}
@@ -44,29 +44,32 @@ sweep-if-requires c κs =
     let pre = after-finish .before .before .before .before .before .before .before .pre in
     (pre .0, levelled-full (levelled-then (after-finish .finish .ensures) (head .loop .inv)) (pre .1))
 
-rise-all-requires : tie.Need-rise-all-requires Inv-loop μ-loop
-rise-all-requires c κs =
+shl-note-all : tie.Need-shl-note-all Inv-loop μ-loop
+shl-note-all c = omega arith
+
+note-all-requires : tie.Need-note-all-requires Inv-loop μ-loop
+note-all-requires c κs =
     let after-sweep-if = c .before .before .before .before in
     let after-step-of = after-sweep-if .before .before .before in
     let head = after-step-of .before .before .before in
     let after-finish = head .before .before .before .before .before .before .before in
     let pre = after-finish .before .before .before .before .before .before .before .pre in
     let swept = levelled-then (head .loop .inv) (levelled-numbers (after-sweep-if .sweep-if .ensures)) in
-    (pre .0, levelled-full (levelled-then (after-finish .finish .ensures) swept) (pre .1), after-step-of .step-of .ensures)
+    (levelled-full (levelled-then (after-finish .finish .ensures) swept) (pre .1), after-step-of .step-of .ensures)
 
 loop-less : tie.Need-loop-less Inv-loop μ-loop
 loop-less c =
-    let turn = c .before .before .before .before .before .before .before .before .before .before .before .before .before .before in
+    let turn = c .before .before .before .before .before .before .before .before .before .before .before .before in
     let head = turn .before in
     omega (arith, turn .loop-test .taken, and-le-r (head .loop .rest) (head .loop .rest - 1))
 
 loop-again : tie.Need-loop-again Inv-loop μ-loop
 loop-again c =
-    let after-rise-all = c .before .before .before .before in
-    let after-sweep-if = after-rise-all .before .before .before .before .before in
+    let after-note-all = c .before .before in
+    let after-sweep-if = after-note-all .before .before .before .before .before in
     let head = after-sweep-if .before .before .before .before .before .before in
     let swept = levelled-then (head .loop .inv) (levelled-numbers (after-sweep-if .sweep-if .ensures)) in
-    levelled-then swept (after-rise-all .rise-all .ensures)
+    levelled-then swept (levelled-scratch (after-note-all .note-all .ensures))
 
 same-length : tie.Need-same-length Inv-loop μ-loop
 same-length c = c .before .loop .inv .scratch .long ∙ c .before .before .before .before .before .before .before .before .finish .ensures .scratch .long
@@ -90,7 +93,8 @@ begin-all-spec =
     sub-rest
     step-of-requires
     sweep-if-requires
-    rise-all-requires
+    shl-note-all
+    note-all-requires
     loop-less
     loop-again
     same-length

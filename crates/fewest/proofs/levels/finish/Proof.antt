@@ -1,4 +1,6 @@
 -- `fewest::levels::finish` meets its contract: where no star ends the body, nothing of the table.
+use Rattle.meaning.specs.Limits.{terms, triples}
+use native.Mathlib.Omega.{arith}
 use Rattle.fewest.proofs.Keeping.{levelled-scratch}
 use borrow.Author.Needs.{needs}
 use Rattle.fewest.proofs.levels.finish.Statement.{statement}
@@ -22,14 +24,15 @@ returns c = search needs
 last-in-requires : tie.Need-last-in-requires
 last-in-requires c κs = search needs
 
-close-all-requires : tie.Need-close-all-requires
-close-all-requires c κs = search needs
+put-sets-requires : tie.Need-put-sets-requires
+unfolding terms triples
+put-sets-requires c κs = omega arith
 
 same-length-3 : tie.Need-same-length-3
 same-length-3 c = search needs
 
 returns-2 : tie.Need-returns-2
-returns-2 c = levelled-scratch (c .before .before .close-all .ensures)
+returns-2 c = levelled-scratch (c .before .before .put-sets .ensures)
 
 pub finish-spec : {M : Type 1} → statement M
 finish-spec =
@@ -41,6 +44,6 @@ finish-spec =
     same-length-2
     returns
     last-in-requires
-    close-all-requires
+    put-sets-requires
     same-length-3
     returns-2)

@@ -10,11 +10,14 @@ use Rattle.fewest.proofs.levels.possible.Statement.{statement}
 use Rattle.fewest.proofs.levels.possible.Tie as tie
 
 abbrev Inv-loop : tie.InvT-loop
-Inv-loop up role goal scratch numbers set t rest₀ got₀ rest got =
+Inv-loop triples up role goal scratch numbers set t k rest₀ got₀ rest got =
     Unit
 
 abbrev μ-loop : tie.MeasureT-loop
-μ-loop up role goal scratch numbers set t rest₀ got₀ rest got = rest
+μ-loop triples up role goal scratch numbers set t k rest₀ got₀ rest got = rest
+
+returns : tie.Need-returns Inv-loop μ-loop
+returns c = tt
 
 loop-holds : tie.Need-loop-holds Inv-loop μ-loop
 loop-holds c = tt
@@ -31,7 +34,7 @@ step-of-requires c κs = search needs
 possible-one-requires : tie.Need-possible-one-requires Inv-loop μ-loop
 unfolding records
 possible-one-requires c κs =
-    let pre = c .before .before .before .before .before .pre in
+    let pre = c .before .before .before .before .before .before .pre in
     (pre .0, pre .1, c .step-of .ensures, omega arith, pre .2)
 
 loop-less : tie.Need-loop-less Inv-loop μ-loop
@@ -42,8 +45,8 @@ loop-less c =
 loop-again : tie.Need-loop-again Inv-loop μ-loop
 loop-again c = tt
 
-returns : tie.Need-returns Inv-loop μ-loop
-returns c = tt
+returns-2 : tie.Need-returns-2 Inv-loop μ-loop
+returns-2 c = tt
 
 pub possible-spec : {M : Type 1} → statement M
 possible-spec =
@@ -51,6 +54,7 @@ possible-spec =
     (tie.spec
     Inv-loop
     μ-loop
+    returns
     loop-holds
     cast-bit
     sub-rest
@@ -58,4 +62,4 @@ possible-spec =
     possible-one-requires
     loop-less
     loop-again
-    returns)
+    returns-2)

@@ -10,11 +10,11 @@ use Rattle.fewest.proofs.levels.run_levels.Statement.{statement}
 use Rattle.fewest.proofs.levels.run_levels.Tie as tie
 
 abbrev Inv-loop : tie.InvT-loop
-Inv-loop site triples rule starts count up role first goal scratch₀ numbers₀ begun len₀ side₀ scratch numbers len side =
+Inv-loop site triples rule starts count up role first goal scratch₀ numbers₀ begun opening len₀ side₀ also₀ scratch numbers len side also =
     Levelled site triples rule up role first (goalOf goal) numbers₀ numbers scratch₀ scratch
 
 abbrev μ-loop : tie.MeasureT-loop
-μ-loop site triples rule starts count up role first goal scratch₀ numbers₀ begun len₀ side₀ scratch numbers len side = records * terms - side
+μ-loop site triples rule starts count up role first goal scratch₀ numbers₀ begun opening len₀ side₀ also₀ scratch numbers len side also = records * terms - side
 
 loop-holds : tie.Need-loop-holds Inv-loop μ-loop
 loop-holds c = levelled-none
@@ -31,11 +31,18 @@ same-length-2 c = c .before .before .loop .inv .numbers .long
 returns : tie.Need-returns Inv-loop μ-loop
 returns c = c .before .before .loop .inv
 
-level-requires : tie.Need-level-requires Inv-loop μ-loop
-level-requires c κs =
+rise-level-requires : tie.Need-rise-level-requires Inv-loop μ-loop
+rise-level-requires c κs =
     let head = c .before .before .before .before in
     let pre = head .before .before .before .before .before .pre in
     (pre .0, levelled-full (head .loop .inv) (pre .1))
+
+take-level-requires : tie.Need-take-level-requires Inv-loop μ-loop
+take-level-requires c κs =
+    let after-rise-level = c .before .before .before .before .before .before in
+    let head = after-rise-level .before .before .before .before .before in
+    let pre = head .before .before .before .before .before .pre in
+    (pre .0, levelled-full (levelled-then (head .loop .inv) (after-rise-level .rise-level .ensures)) (pre .1))
 
 add-side : tie.Need-add-side Inv-loop μ-loop
 add-side c = omega arith
@@ -46,9 +53,10 @@ loop-less c = omega arith
 
 loop-again : tie.Need-loop-again Inv-loop μ-loop
 loop-again c =
-    let after-level = c .before .before .before .before in
-    let head = after-level .before .before .before .before .before in
-    levelled-then (head .loop .inv) (after-level .level .ensures)
+    let after-take-level = c .before .before .before .before in
+    let after-rise-level = after-take-level .before .before .before .before .before .before .before in
+    let head = after-rise-level .before .before .before .before .before in
+    levelled-then (levelled-then (head .loop .inv) (after-rise-level .rise-level .ensures)) (after-take-level .take-level .ensures)
 
 same-length-3 : tie.Need-same-length-3 Inv-loop μ-loop
 same-length-3 c = c .before .loop .inv .scratch .long
@@ -70,7 +78,8 @@ run-levels-spec =
     same-length
     same-length-2
     returns
-    level-requires
+    rise-level-requires
+    take-level-requires
     add-side
     loop-less
     loop-again

@@ -10,9 +10,12 @@ prepare-requires c κs = search needs
 begin-body-requires : tie.Need-begin-body-requires
 begin-body-requires c κs = search needs
 
+opening-requires : tie.Need-opening-requires
+opening-requires c κs = c .before .before .before .before .before .before .before .before .before .before .before .before .before .before .before .before .pre .2
+
 run-levels-requires : tie.Need-run-levels-requires
 run-levels-requires c κs =
-    let after-begin-body = c .before .before .before .before .before .before in
+    let after-begin-body = c .before .before .before .before .before .before .before .before in
     let pre = after-begin-body .before .before .before .before .before .before .before .before .before .before .before .pre in
     (pre .0, levelled-full (after-begin-body .begin-body .ensures) (pre .1))
 
@@ -25,7 +28,7 @@ same-length-2 c = search needs
 returns : tie.Need-returns
 returns c =
     let after-run-levels = c .before .before .before .before in
-    let after-begin-body = after-run-levels .before .before .before .before .before .before .before in
+    let after-begin-body = after-run-levels .before .before .before .before .before .before .before .before .before in
     let prepared = levelled-scratch (after-begin-body .before .before .before .before .before .prepare .ensures) in
     levelled-then prepared (levelled-then (after-begin-body .begin-body .ensures) (after-run-levels .run-levels .ensures))
 
@@ -35,6 +38,7 @@ search-spec =
     (tie.spec
     prepare-requires
     begin-body-requires
+    opening-requires
     run-levels-requires
     same-length
     same-length-2

@@ -1,11 +1,9 @@
--- `fewest::levels::take` meets its contract: the triple's one move along the axis, and the rise from where it begins.
-use mathlib.Core.Path.{_∙_}
+-- `fewest::levels::take` meets its contract: the triple's one move along the axis, and the note of where it begins.
 use Rattle.records.specs.Sites.{siteOf}
 use Rattle.records.specs.Rules.{axisNumbered}
-use Rattle.fewest.specs.Table.{Full}
 use Rattle.fewest.proofs.Axes.{Terms, Taken, moved-terms, moved-taken}
 use Rattle.fewest.proofs.Hints.{hinted-step, stepping-sits}
-use Rattle.fewest.proofs.Keeping.{levelled-numbers, levelled-then}
+use Rattle.fewest.proofs.Keeping.{levelled-numbers, levelled-scratch, levelled-then}
 use borrow.Author.Needs.{needs}
 use native.Mathlib.Omega.{arith}
 use Rattle.fewest.proofs.levels.take.Statement.{statement}
@@ -36,14 +34,8 @@ reach-requires c κs =
     let inside = in-terms (c .before) in
     (full, ready .climbs, omega arith, stepping-sits ready here _ stepping .1, inside .from, inside .middle, inside .to)
 
-rise-requires : tie.Need-rise-requires
-unfolding Full
-rise-requires c κs =
-    let after-reach = c .before .before .before .before .before in
-    let after-move-at = after-reach .before .before in
-    let (ready, full, here, within, stepping, other, so) = after-move-at .before .before .before .before .before .pre in
-    let few = ready .few in
-    (ready, after-reach .reach .kept .1 .1 .1 .1 .1 .0 ∙ full, omega arith, in-terms after-move-at .from)
+note-requires : tie.Need-note-requires
+note-requires c κs = in-terms (c .before .before .before .before .before .before) .from
 
 same-length : tie.Need-same-length
 same-length c = search needs
@@ -53,13 +45,13 @@ same-length-2 c = search needs
 
 returns : tie.Need-returns
 returns c =
-    let after-rise = c .before .before .before .before in
-    let after-reach = after-rise .before .before .before .before .before .before in
+    let after-note = c .before .before in
+    let after-reach = after-note .before .before .before .before .before in
     let after-move-at = after-reach .before .before in
     let (ready, full, here, within, stepping, other, so) = after-move-at .before .before .before .before .before .pre in
     levelled-then
     (levelled-numbers (hinted-step ready here _ stepping (after-reach .reach .kept .1 .1 .1 .1 .1 .0) (after-reach .reach .ensures _ _ _ (one-move after-move-at .moves))))
-    (after-rise .rise .ensures)
+    (levelled-scratch (after-note .note .ensures))
 
 same-length-3 : tie.Need-same-length-3
 same-length-3 c = search needs
@@ -78,7 +70,7 @@ take-spec =
     (tie.spec
     move-at-requires
     reach-requires
-    rise-requires
+    note-requires
     same-length
     same-length-2
     returns

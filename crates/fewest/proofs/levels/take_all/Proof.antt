@@ -10,11 +10,11 @@ use Rattle.fewest.proofs.levels.take_all.Statement.{statement}
 use Rattle.fewest.proofs.levels.take_all.Tie as tie
 
 abbrev Inv-loop : tie.InvT-loop
-Inv-loop site triples rule starts count up role first goal scratch₀ numbers₀ step r u side was axis parts len₀ k₀ scratch numbers len k =
+Inv-loop site triples rule starts count up role first goal scratch₀ numbers₀ step r one u side was axis parts len₀ k₀ scratch numbers len k =
     Levelled site triples rule up role first (goalOf goal) numbers₀ numbers scratch₀ scratch
 
 abbrev μ-loop : tie.MeasureT-loop
-μ-loop site triples rule starts count up role first goal scratch₀ numbers₀ step r u side was axis parts len₀ k₀ scratch numbers len k = triples - k
+μ-loop site triples rule starts count up role first goal scratch₀ numbers₀ step r one u side was axis parts len₀ k₀ scratch numbers len k = triples - k
 
 parts-of-requires : tie.Need-parts-of-requires Inv-loop μ-loop
 parts-of-requires c κs = search needs

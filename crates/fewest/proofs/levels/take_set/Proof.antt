@@ -30,6 +30,9 @@ sub-rest c = omega (arith, c .loop-test .taken)
 step-of-requires : tie.Need-step-of-requires Inv-loop μ-loop
 step-of-requires c κs = search needs
 
+shl-take-record : tie.Need-shl-take-record Inv-loop μ-loop
+shl-take-record c = omega arith
+
 take-record-requires : tie.Need-take-record-requires Inv-loop μ-loop
 take-record-requires c κs =
     let head = c .before .before .before .before .before in
@@ -67,6 +70,7 @@ take-set-spec =
     cast-bit
     sub-rest
     step-of-requires
+    shl-take-record
     take-record-requires
     loop-less
     loop-again

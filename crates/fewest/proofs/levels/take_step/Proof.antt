@@ -1,8 +1,6 @@
 -- `fewest::levels::take_step` meets its contract: an axis that takes triples goes by them, self stays.
-use mathlib.Core.Path.{_∙_}
-use Rattle.fewest.specs.Table.{Full}
 use Rattle.fewest.proofs.Hints.{hinted-self, stepping-sits}
-use Rattle.fewest.proofs.Keeping.{levelled-numbers, levelled-then}
+use Rattle.fewest.proofs.Keeping.{levelled-numbers, levelled-scratch, levelled-then}
 use borrow.Author.Needs.{needs}
 use native.Mathlib.Omega.{arith}
 use Rattle.fewest.proofs.levels.take_step.Statement.{statement}
@@ -31,13 +29,8 @@ rest-at-requires c κs =
     let few = ready .few in
     (ready .good, full, ready .climbs, omega arith, term, stepping-sits ready here _ stepping .1)
 
-rise-requires : tie.Need-rise-requires
-unfolding Full
-rise-requires c κs =
-    let after-rest-at = c .before .before .before .before .before in
-    let (ready, full, here, term, stepping) = after-rest-at .before .before .before .before .before .before .before .before .before .before .pre in
-    let few = ready .few in
-    (ready, after-rest-at .rest-at .kept .1 .1 .1 .1 .1 .1 .0 ∙ full, omega arith, term)
+note-requires : tie.Need-note-requires
+note-requires c κs = c .before .before .before .before .before .before .before .before .before .before .before .before .before .before .pre .3
 
 same-length-3 : tie.Need-same-length-3
 same-length-3 c = search needs
@@ -47,13 +40,13 @@ same-length-4 c = search needs
 
 returns-2 : tie.Need-returns-2
 returns-2 c =
-    let after-rise = c .before .before .before .before in
-    let after-rest-at = after-rise .before .before .before .before .before .before in
+    let after-note = c .before .before in
+    let after-rest-at = after-note .before .before .before .before .before in
     let else-1 = after-rest-at .before .before .before .before in
     let (ready, full, here, term, stepping) = else-1 .before .before .before .before .before .before .pre in
     levelled-then
     (levelled-numbers (hinted-self ready here _ stepping (else-1 .if1 .left) (after-rest-at .rest-at .kept .1 .1 .1 .1 .1 .1 .0) (after-rest-at .rest-at .ensures)))
-    (after-rise .rise .ensures)
+    (levelled-scratch (after-note .note .ensures))
 
 same-length-5 : tie.Need-same-length-5
 same-length-5 c = search needs
@@ -79,7 +72,7 @@ take-step-spec =
     returns
     witness-requires
     rest-at-requires
-    rise-requires
+    note-requires
     same-length-3
     same-length-4
     returns-2

@@ -1,4 +1,4 @@
--- `fewest::levels::level` meets its contract: term after term of the list.
+-- `fewest::levels::take_level` meets its contract: term after term of the list.
 -- The measure is what is left of it.
 use Prim.Native.Nat.{_-_}
 use Rattle.fewest.specs.Work.{goalOf}
@@ -6,8 +6,8 @@ use Rattle.fewest.specs.Kept.{Levelled}
 use Rattle.fewest.proofs.Keeping.{levelled-none, levelled-then, levelled-full}
 use borrow.Author.Needs.{needs}
 use native.Mathlib.Omega.{arith}
-use Rattle.fewest.proofs.levels.level.Statement.{statement}
-use Rattle.fewest.proofs.levels.level.Tie as tie
+use Rattle.fewest.proofs.levels.take_level.Statement.{statement}
+use Rattle.fewest.proofs.levels.take_level.Tie as tie
 
 abbrev Inv-loop : tie.InvT-loop
 Inv-loop site triples rule starts count up role first goal scratch₀ numbers₀ side len next₀ i₀ scratch numbers next i =
@@ -61,8 +61,8 @@ same-length-2 c = c .before .loop .inv .numbers .long
 returns : tie.Need-returns Inv-loop μ-loop
 returns c = c .before .loop .inv
 
-pub level-spec : {M : Type 1} → statement M
-level-spec =
+pub take-level-spec : {M : Type 1} → statement M
+take-level-spec =
     tie.close
     (tie.spec
     Inv-loop

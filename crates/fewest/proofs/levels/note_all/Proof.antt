@@ -1,28 +1,29 @@
--- `fewest::levels::close_all` meets its contract: its places stand behind the threads.
+-- `fewest::levels::note_all` meets its contract: term by term.
 -- The measure is what is left of the terms.
 use Prim.Native.Nat.{_-_}
-use Rattle.meaning.specs.Limits.{terms, triples}
+use Rattle.meaning.specs.Limits.{terms}
 use Rattle.fewest.specs.Kept.{Kept}
 use Rattle.fewest.proofs.Keeping.{kept-none, kept-then}
 use native.Mathlib.Omega.{arith}
-use Rattle.fewest.proofs.levels.close_all.Statement.{statement}
-use Rattle.fewest.proofs.levels.close_all.Tie as tie
+use Rattle.fewest.proofs.levels.note_all.Statement.{statement}
+use Rattle.fewest.proofs.levels.note_all.Tie as tie
 
 abbrev Inv-loop : tie.InvT-loop
-Inv-loop scratch₀ set t₀ scratch t = Kept scratch₀ scratch
+Inv-loop numbers scratch₀ r one was len₀ t₀ scratch len t =
+    Kept scratch₀ scratch
 
 abbrev μ-loop : tie.MeasureT-loop
-μ-loop scratch₀ set t₀ scratch t = terms - t
+μ-loop numbers scratch₀ r one was len₀ t₀ scratch len t = terms - t
 
 loop-holds : tie.Need-loop-holds Inv-loop μ-loop
 loop-holds c = kept-none
 
-add-put-set : tie.Need-add-put-set Inv-loop μ-loop
-add-put-set c = omega arith
-
-put-set-requires : tie.Need-put-set-requires Inv-loop μ-loop
-unfolding terms triples
-put-set-requires c κs = omega arith
+note-if-requires : tie.Need-note-if-requires Inv-loop μ-loop
+unfolding terms
+note-if-requires c κs =
+    let turn = c .before in
+    let pre = turn .before .before .before .before .pre in
+    (pre .0, pre .1, turn .loop-test .taken)
 
 add-t : tie.Need-add-t Inv-loop μ-loop
 add-t c = omega arith
@@ -32,7 +33,7 @@ unfolding terms
 loop-less c = omega arith
 
 loop-again : tie.Need-loop-again Inv-loop μ-loop
-loop-again c = kept-then (c .before .before .before .before .before .loop .inv) (c .before .before .put-set .ensures)
+loop-again c = kept-then (c .before .before .before .before .before .loop .inv) (c .before .before .note-if .ensures)
 
 same-length : tie.Need-same-length Inv-loop μ-loop
 same-length c = c .before .loop .inv .long
@@ -40,15 +41,14 @@ same-length c = c .before .loop .inv .long
 returns : tie.Need-returns Inv-loop μ-loop
 returns c = c .before .loop .inv
 
-pub close-all-spec : {M : Type 1} → statement M
-close-all-spec =
+pub note-all-spec : {M : Type 1} → statement M
+note-all-spec =
     tie.close
     (tie.spec
     Inv-loop
     μ-loop
     loop-holds
-    add-put-set
-    put-set-requires
+    note-if-requires
     add-t
     loop-less
     loop-again
