@@ -10,29 +10,24 @@ use Rattle.calls.proofs.Deciding.{no-ends, none-before, finished-bits, 
 use Rattle.calls.proofs.decide.answer.Statement.{statement}
 use Rattle.calls.proofs.decide.answer.Tie as tie
 
-words-of-requires : tie.Need-words-of-requires
-words-of-requires c κs = given-ready (c .before .before .before .before .before .pre .0) .good
-
 fill-requires : tie.Need-fill-requires
 unfolding Full
 fill-requires c κs =
-    let pre = c .before .before .before .before .before .before .before .before .before .pre in
-    (given-ready (pre .0), pre .3 .numbers-fit, c .before .before .before .words-of .ensures)
-
-thread-requires : tie.Need-thread-requires
-thread-requires c κs = given-ready (c .before .before .before .before .before .before .before .before .before .before .before .before .before .before .before .pre .0) .good
+    let pre = c .before .before .before .before .before .before .before .pre in
+    (given-ready (pre .0), pre .3 .numbers-fit, pre .3 .asked-fits)
 
 show-requires : tie.Need-show-requires
 show-requires c κs =
-    let pre = c .before .before .before .before .before .before .before .before .before .before .before .before .before .before .before .before .before .before .before .before .before .pre in
-    let tables = c .before .before .before .before .before .before .before .before .before .before .before .fill .kept .1 .1 .1 .1 .1 .1 .1 .1 .1 .1 in
-    let asked = tables .0 ∙ pre .3 .asked-fits in (
+    let pre = c .before .before .before .before .before .before .before .before .before .before .before .before .before .before .before .pre in
+    let filled = c .before .before .before .before .before .before .before in
+    let tables = filled .fill .kept .1 .1 .1 .1 .1 .1 .1 .1 .1 in
+    let (settled, threads) = filled .fill .ensures in (
       pre .0,
-      c .before .before .before .before .before .before .before .before .before .before .before .fill .ensures,
+      settled,
       pre .1,
-      record { asked-fits = c .before .before .before .before .before .thread .kept .1 .1 .0 ∙ asked; numbers-fit = tables .1 .0 ∙ pre .3 .numbers-fit },
+      record { asked-fits = tables .0 ∙ pre .3 .asked-fits; numbers-fit = tables .1 .0 ∙ pre .3 .numbers-fit },
       pre .4,
-      c .before .before .before .before .before .thread .ensures asked,
+      threads,
     )
 
 slice-relend-prefix-ask : tie.Need-slice-relend-prefix-ask
@@ -44,31 +39,23 @@ slice-aggregate-ask c = refl
 ask-requires : tie.Need-ask-requires
 unfolding Full Whole
 ask-requires c κs =
-    let pre = c .before .before .before .before .before .before .before .before .before .before .before .before .before .before .before .before .before .before .before .before .before .before .before .before .before .before .before .before .pre in
-    let tables = c .before .before .before .before .before .before .before .before .before .before .before .before .before .before .before .before .before .before .fill .kept .1 .1 .1 .1 .1 .1 .1 .1 .1 .1 in
-    let asked = tables .0 ∙ pre .3 .asked-fits in (
-      given-ready (pre .0),
-      tables .1 .0 ∙ pre .3 .numbers-fit,
-      c .before .before .before .before .before .before .before .before .before .before .before .before .thread .kept .1 .1 .0 ∙ asked,
-      given-some (pre .0),
-      pre .1,
-      c .before .before .before .before .before .before .before .before .before .before .before .before .before .before .before .before .before .before .before .before .before .before .words-of .ensures,
-      c .before .before .before .before .before .before .before .before .before .before .before .before .thread .ensures asked,
-    )
+    let pre = c .before .before .before .before .before .before .before .before .before .before .before .before .before .before .before .before .before .before .before .before .before .pre in
+    let filled = c .before .before .before .before .before .before .before .before .before .before .before .before .before in
+    let tables = filled .fill .kept .1 .1 .1 .1 .1 .1 .1 .1 .1 in
+    (given-ready (pre .0), tables .1 .0 ∙ pre .3 .numbers-fit, tables .0 ∙ pre .3 .asked-fits, given-some (pre .0), pre .1, filled .fill .ensures .1)
 
 finish-requires : tie.Need-finish-requires
 finish-requires c κs =
-    let pre = c .before .before .before .before .before .before .before .before .before .before .before .before .before .before .before .before .before .before .before .before .before .before .before .before .before .before .before .before .before .before .before .before .before .before .pre in
-    let numbers = c .before .before .before .before .before .before .before .before .before .before .before .before .before .before .before .before .before .before .before .before .before .before .before .before .fill .last .1 .1 .1 .1 .1 .1 .1 .1 .1 .1 .1 .0 in
-    let ends = c .before .before .before .before .before .ask .last .1 .1 .1 .1 .1 .1 .1 .1 .1 .1 .1 .1 .0 in
-    let kept = c .before .before .before .before .before .ask .kept .1 .1 .1 .1 .1 .1 .1 .1 .1 .1 .1 .1 .0 in
-    let E = no-ends numbers ends kept refl (c .before .before .before .before .before .before .before .before .before .before .before .before .before .before .before .before .before .before .before .before .before .before .before .before .fill .ensures) (c .before .before .before .before .before .ask .ensures) in
+    let pre = c .before .before .before .before .before .before .before .before .before .before .before .before .before .before .before .before .before .before .before .before .before .before .before .before .before .before .before .pre in
+    let filled = c .before .before .before .before .before .before .before .before .before .before .before .before .before .before .before .before .before .before .before in
+    let asks = c .before .before .before .before .before in
+    let ends = asks .ask .last .1 .1 .1 .1 .1 .1 .1 .1 .1 .1 .1 .0 in
+    let kept = asks .ask .kept .1 .1 .1 .1 .1 .1 .1 .1 .1 .1 .1 .0 in
+    let E = no-ends (filled .fill .last .1 .1 .1 .1 .1 .1 .1 .1 .1 .1 .0) ends kept refl (filled .fill .ensures .0) (asks .ask .ensures) in
     finished-bits (pre .0) E (pre .1)
 
 same-length : tie.Need-same-length
-same-length c =
-    c .before .before .before .before .before .before .ask .kept .1 .1 .1 .1 .1 .1 .1 .1 .1 .1 .1 .0 ∙
-    c .before .before .before .before .before .before .before .before .before .before .before .before .before .before .before .before .before .before .before .thread .kept .1 .1 .0 ∙ c .before .before .before .before .before .before .before .before .before .before .before .before .before .before .before .before .before .before .before .before .before .before .before .before .before .fill .kept .1 .1 .1 .1 .1 .1 .1 .1 .1 .1 .0
+same-length c = c .before .before .before .before .before .before .ask .kept .1 .1 .1 .1 .1 .1 .1 .1 .1 .1 .0 ∙ c .before .before .before .before .before .before .before .before .before .before .before .before .before .before .before .before .before .before .before .before .fill .kept .1 .1 .1 .1 .1 .1 .1 .1 .1 .0
 
 same-length-2 : tie.Need-same-length-2
 same-length-2 c = search needs
@@ -79,23 +66,22 @@ same-length-3 c = search needs
 returns : tie.Need-returns
 unfolding room-steps
 returns c =
-    let start = c .before .before .before .before .before .before .before .before .before .before .before .before .before .before .before .before .before .before .before .before .before .before .before .before .before .before .before .before .before .before .before .before .before .before .before in
+    let start = c .before .before .before .before .before .before .before .before .before .before .before .before .before .before .before .before .before .before .before .before .before .before .before .before .before .before .before .before in
     let pre = start .pre in
-    let tables = c .before .before .before .before .before .before .before .before .before .before .before .before .before .before .before .before .before .before .before .before .before .before .before .before .before .fill .kept .1 .1 .1 .1 .1 .1 .1 .1 .1 .1 in
-    let numbers = c .before .before .before .before .before .before .before .before .before .before .before .before .before .before .before .before .before .before .before .before .before .before .before .before .before .fill .last .1 .1 .1 .1 .1 .1 .1 .1 .1 .1 .1 .0 in
-    let ends = c .before .before .before .before .before .before .ask .last .1 .1 .1 .1 .1 .1 .1 .1 .1 .1 .1 .1 .0 in
-    let kept = c .before .before .before .before .before .before .ask .kept .1 .1 .1 .1 .1 .1 .1 .1 .1 .1 .1 .1 .0 in
-    let E = no-ends numbers ends kept refl (c .before .before .before .before .before .before .before .before .before .before .before .before .before .before .before .before .before .before .before .before .before .before .before .before .before .fill .ensures) (c .before .before .before .before .before .before .ask .ensures) in
-    rw (none-before ends (c .before .before .before .before .before .before .before .before .before .before .before .before .before .show .last .1 .1 .1 .1 .1 .1 .1 .1 .1 .1 .1 .1 .0) kept, c .finish .ensures)
-    (finished (pre .0) E (pre .1) as-bytes (start .args .room .now) (pre .3) (pre .4) (pre .2) (tables .1 .0 ∙ pre .3 .numbers-fit) (c .before .before .before .before .before .before .before .before .before .before .before .before .before .show .ensures) (λ i h. omega (arith, pre .4)))
+    let filled = c .before .before .before .before .before .before .before .before .before .before .before .before .before .before .before .before .before .before .before .before in
+    let shows = c .before .before .before .before .before .before .before .before .before .before .before .before in
+    let asks = c .before .before .before .before .before .before in
+    let ends = asks .ask .last .1 .1 .1 .1 .1 .1 .1 .1 .1 .1 .1 .0 in
+    let kept = asks .ask .kept .1 .1 .1 .1 .1 .1 .1 .1 .1 .1 .1 .0 in
+    let E = no-ends (filled .fill .last .1 .1 .1 .1 .1 .1 .1 .1 .1 .1 .0) ends kept refl (filled .fill .ensures .0) (asks .ask .ensures) in
+    rw (none-before ends (shows .show .last .1 .1 .1 .1 .1 .1 .1 .1 .1 .1 .1 .1 .0) kept, c .finish .ensures)
+    (finished (pre .0) E (pre .1) as-bytes (start .args .room .now) (pre .3) (pre .4) (pre .2) (filled .fill .kept .1 .1 .1 .1 .1 .1 .1 .1 .1 .1 .0 ∙ pre .3 .numbers-fit) (shows .show .ensures) (λ i h. omega (arith, pre .4)))
 
 pub answer-spec : {M : Type 1} → statement M
 answer-spec =
     tie.close
     (tie.spec
-    words-of-requires
     fill-requires
-    thread-requires
     show-requires
     slice-relend-prefix-ask
     slice-aggregate-ask

@@ -11,69 +11,55 @@ use Rattle.calls.proofs.Deciding.{no-ends, finished-bits, finished}
 use Rattle.calls.proofs.decide_words.answer_words.Statement.{statement}
 use Rattle.calls.proofs.decide_words.answer_words.Tie as tie
 
-words-of-requires : tie.Need-words-of-requires
-words-of-requires c κs = given-ready (c .before .before .before .before .before .before .before .pre .0) .good
-
 fill-requires : tie.Need-fill-requires
 fill-requires c κs =
-    let pre = c .before .before .before .before .before .before .before .before .before .before .before .pre in
-    (given-ready (pre .0), pre .4, c .before .before .before .words-of .ensures)
-
-thread-requires : tie.Need-thread-requires
-thread-requires c κs = given-ready (c .before .before .before .before .before .before .before .before .before .before .before .before .before .before .before .before .before .pre .0) .good
+    let pre = c .before .before .before .before .before .before .before .before .before .pre in
+    (given-ready (pre .0), pre .4, pre .3 .asked-fits)
 
 show-words-requires : tie.Need-show-words-requires
 unfolding Full
 show-words-requires c κs =
-    let start = c .before .before .before .before .before .before .before .before .before .before .before .before .before .before .before .before .before .before .before .before .before .before .before in
+    let start = c .before .before .before .before .before .before .before .before .before .before .before .before .before .before .before .before .before in
     let pre = start .pre in
-    let tables = c .before .before .before .before .before .before .before .before .before .before .before .fill .kept .1 .1 .1 .1 .1 .1 .1 .1 .1 .1 in (
+    let filled = c .before .before .before .before .before .before .before in
+    let (settled, threads) = filled .fill .ensures in (
       pre .0,
-      c .before .before .before .before .before .before .before .before .before .before .before .fill .ensures,
+      settled,
       pre .1,
-      c .before .before .before .before .before .thread .ensures (tables .0 ∙ pre .3 .asked-fits),
-      tables .1 .0 ∙ pre .4,
+      threads,
+      filled .fill .kept .1 .1 .1 .1 .1 .1 .1 .1 .1 .1 .0 ∙ pre .4,
       record { numbers = length (start .args .room .now); long = refl; enough = omega arith },
     )
 
 ask-requires : tie.Need-ask-requires
 unfolding Full Whole
 ask-requires c κs =
-    let pre = c .before .before .before .before .before .before .before .before .before .before .before .before .before .before .before .before .before .before .before .before .before .before .before .before .before .before .before .before .before .before .pre in
-    let tables = c .before .before .before .before .before .before .before .before .before .before .before .before .before .before .before .before .before .before .fill .kept .1 .1 .1 .1 .1 .1 .1 .1 .1 .1 in
-    let asked = tables .0 ∙ pre .3 .asked-fits in (
-      given-ready (pre .0),
-      tables .1 .0 ∙ pre .4,
-      c .before .before .before .before .before .before .before .before .before .before .before .before .thread .kept .1 .1 .0 ∙ asked,
-      given-some (pre .0),
-      pre .1,
-      c .before .before .before .before .before .before .before .before .before .before .before .before .before .before .before .before .before .before .before .before .before .before .words-of .ensures,
-      c .before .before .before .before .before .before .before .before .before .before .before .before .thread .ensures asked,
-    )
+    let pre = c .before .before .before .before .before .before .before .before .before .before .before .before .before .before .before .before .before .before .before .before .before .before .before .pre in
+    let filled = c .before .before .before .before .before .before .before .before .before .before .before .before .before in
+    let tables = filled .fill .kept .1 .1 .1 .1 .1 .1 .1 .1 .1 in
+    (given-ready (pre .0), tables .1 .0 ∙ pre .4, tables .0 ∙ pre .3 .asked-fits, given-some (pre .0), pre .1, filled .fill .ensures .1)
 
 copy-back-requires : tie.Need-copy-back-requires
 unfolding Full
 copy-back-requires c κs =
-    let pre = c .before .before .before .before .before .before .before .before .before .before .before .before .before .before .before .before .before .before .before .before .before .before .before .before .before .before .before .before .before .before .before .before .before .before .before .before .before .pre in
-    let tables = c .before .before .before .before .before .before .before .before .before .before .before .before .before .before .before .before .before .before .before .before .before .before .before .before .before .fill .kept .1 .1 .1 .1 .1 .1 .1 .1 .1 .1 in
-    (tables .1 .0 ∙ pre .4, pre .3 .numbers-fit)
+    let pre = c .before .before .before .before .before .before .before .before .before .before .before .before .before .before .before .before .before .before .before .before .before .before .before .before .before .before .before .before .before .before .pre in
+    (c .before .before .before .before .before .before .before .before .before .before .before .before .before .before .before .before .before .before .before .before .fill .kept .1 .1 .1 .1 .1 .1 .1 .1 .1 .1 .0 ∙ pre .4, pre .3 .numbers-fit)
 
 finish-requires : tie.Need-finish-requires
 finish-requires c κs =
-    let pre = c .before .before .before .before .before .before .before .before .before .before .before .before .before .before .before .before .before .before .before .before .before .before .before .before .before .before .before .before .before .before .before .before .before .before .before .before .before .before .before .before .before .pre in
-    let numbers = c .before .before .before .before .before .before .before .before .before .before .before .before .before .before .before .before .before .before .before .before .before .before .before .before .before .before .before .before .before .fill .last .1 .1 .1 .1 .1 .1 .1 .1 .1 .1 .1 .0 in
-    let ends = c .before .before .before .before .before .before .before .before .before .before .ask .last .1 .1 .1 .1 .1 .1 .1 .1 .1 .1 .1 .1 .0 in
-    let kept = c .before .before .before .before .before .before .before .before .before .before .ask .kept .1 .1 .1 .1 .1 .1 .1 .1 .1 .1 .1 .1 .0 in
-    let E = no-ends numbers ends kept (pre .5) (c .before .before .before .before .before .before .before .before .before .before .before .before .before .before .before .before .before .before .before .before .before .before .before .before .before .before .before .before .before .fill .ensures) (c .before .before .before .before .before .before .before .before .before .before .ask .ensures) in
+    let pre = c .before .before .before .before .before .before .before .before .before .before .before .before .before .before .before .before .before .before .before .before .before .before .before .before .before .before .before .before .before .before .before .before .before .before .pre in
+    let filled = c .before .before .before .before .before .before .before .before .before .before .before .before .before .before .before .before .before .before .before .before .before .before .before .before in
+    let asks = c .before .before .before .before .before .before .before .before .before .before in
+    let ends = asks .ask .last .1 .1 .1 .1 .1 .1 .1 .1 .1 .1 .1 .0 in
+    let kept = asks .ask .kept .1 .1 .1 .1 .1 .1 .1 .1 .1 .1 .1 .0 in
+    let E = no-ends (filled .fill .last .1 .1 .1 .1 .1 .1 .1 .1 .1 .1 .0) ends kept (pre .5) (filled .fill .ensures .0) (asks .ask .ensures) in
     finished-bits (pre .0) E (pre .1)
 
 same-length : tie.Need-same-length
-same-length c =
-    c .before .before .before .before .before .before .before .before .before .before .before .ask .kept .1 .1 .1 .1 .1 .1 .1 .1 .1 .1 .1 .0 ∙
-    c .before .before .before .before .before .before .before .before .before .before .before .before .before .before .before .before .before .before .before .before .before .before .before .before .thread .kept .1 .1 .0 ∙ c .before .before .before .before .before .before .before .before .before .before .before .before .before .before .before .before .before .before .before .before .before .before .before .before .before .before .before .before .before .before .fill .kept .1 .1 .1 .1 .1 .1 .1 .1 .1 .1 .0
+same-length c = c .before .before .before .before .before .before .before .before .before .before .before .ask .kept .1 .1 .1 .1 .1 .1 .1 .1 .1 .1 .0 ∙ c .before .before .before .before .before .before .before .before .before .before .before .before .before .before .before .before .before .before .before .before .before .before .before .before .before .fill .kept .1 .1 .1 .1 .1 .1 .1 .1 .1 .0
 
 same-length-2 : tie.Need-same-length-2
-same-length-2 c = c .before .before .before .before .before .before .before .before .before .before .before .before .before .before .before .before .before .before .before .before .before .before .before .before .before .before .before .before .before .before .fill .kept .1 .1 .1 .1 .1 .1 .1 .1 .1 .1 .1 .0
+same-length-2 c = c .before .before .before .before .before .before .before .before .before .before .before .before .before .before .before .before .before .before .before .before .before .before .before .before .before .fill .kept .1 .1 .1 .1 .1 .1 .1 .1 .1 .1 .0
 
 same-length-3 : tie.Need-same-length-3
 same-length-3 c = search needs
@@ -87,23 +73,21 @@ same-length-5 c = search needs
 returns : tie.Need-returns
 unfolding Full
 returns c =
-    let start = c .before .before .before .before .before .before .before .before .before .before .before .before .before .before .before .before .before .before .before .before .before .before .before .before .before .before .before .before .before .before .before .before .before .before .before .before .before .before .before .before .before .before in
+    let start = c .before .before .before .before .before .before .before .before .before .before .before .before .before .before .before .before .before .before .before .before .before .before .before .before .before .before .before .before .before .before .before .before .before .before .before in
     let pre = start .pre in
-    let tables = c .before .before .before .before .before .before .before .before .before .before .before .before .before .before .before .before .before .before .before .before .before .before .before .before .before .before .before .before .before .before .fill .kept .1 .1 .1 .1 .1 .1 .1 .1 .1 .1 in
-    let numbers = c .before .before .before .before .before .before .before .before .before .before .before .before .before .before .before .before .before .before .before .before .before .before .before .before .before .before .before .before .before .before .fill .last .1 .1 .1 .1 .1 .1 .1 .1 .1 .1 .1 .0 in
-    let ends = c .before .before .before .before .before .before .before .before .before .before .before .ask .last .1 .1 .1 .1 .1 .1 .1 .1 .1 .1 .1 .1 .0 in
-    let kept = c .before .before .before .before .before .before .before .before .before .before .before .ask .kept .1 .1 .1 .1 .1 .1 .1 .1 .1 .1 .1 .1 .0 in
-    let E = no-ends numbers ends kept (pre .5) (c .before .before .before .before .before .before .before .before .before .before .before .before .before .before .before .before .before .before .before .before .before .before .before .before .before .before .before .before .before .before .fill .ensures) (c .before .before .before .before .before .before .before .before .before .before .before .ask .ensures) in
+    let filled = c .before .before .before .before .before .before .before .before .before .before .before .before .before .before .before .before .before .before .before .before .before .before .before .before .before in
+    let asks = c .before .before .before .before .before .before .before .before .before .before .before in
+    let ends = asks .ask .last .1 .1 .1 .1 .1 .1 .1 .1 .1 .1 .1 .0 in
+    let kept = asks .ask .kept .1 .1 .1 .1 .1 .1 .1 .1 .1 .1 .1 .0 in
+    let E = no-ends (filled .fill .last .1 .1 .1 .1 .1 .1 .1 .1 .1 .1 .0) ends kept (pre .5) (filled .fill .ensures .0) (asks .ask .ensures) in
     rw (c .before .before .before .before .copy-back .ensures, c .finish .ensures)
-    (finished (pre .0) E (pre .1) as-words (start .args .room .now) (pre .3) tt (pre .2) (tables .1 .0 ∙ pre .4) (c .before .before .before .before .before .before .before .before .before .before .before .before .before .before .before .before .before .before .show-words .ensures) (λ i h. omega arith))
+    (finished (pre .0) E (pre .1) as-words (start .args .room .now) (pre .3) tt (pre .2) (filled .fill .kept .1 .1 .1 .1 .1 .1 .1 .1 .1 .1 .0 ∙ pre .4) (c .before .before .before .before .before .before .before .before .before .before .before .before .before .before .before .before .before .show-words .ensures) (λ i h. omega arith))
 
 pub answer-words-spec : {M : Type 1} → statement M
 answer-words-spec =
     tie.close
     (tie.spec
-    words-of-requires
     fill-requires
-    thread-requires
     show-words-requires
     ask-requires
     copy-back-requires

@@ -1,5 +1,5 @@
--- `calls::evaluate::evaluate` meets its contract: what `fill` settles and what `ask` marks by the threads, both over the words of the
--- site; none of them changes a table's length.
+-- `calls::evaluate::evaluate` meets its contract: what `fill` settles, and what `ask` marks by the threads that `fill` leaves; neither
+-- changes a table's length.
 use mathlib.Core.Path.{_∙_}
 use borrow.Author.Needs.{needs}
 use Rattle.fewest.specs.Table.{Full}
@@ -7,25 +7,17 @@ use Rattle.asked.specs.Seek.{Whole}
 use Rattle.calls.proofs.evaluate.evaluate.Statement.{statement}
 use Rattle.calls.proofs.evaluate.evaluate.Tie as tie
 
-words-of-requires : tie.Need-words-of-requires
-words-of-requires c κs = c .before .before .before .before .before .pre .0 .good
-
 fill-requires : tie.Need-fill-requires
-fill-requires c κs =
-    let shown = c .before .before .before in
-    let pre = shown .before .before .before .before .before .before .pre in
-    (pre .0, pre .1, shown .words-of .ensures)
-
-thread-requires : tie.Need-thread-requires
-thread-requires c κs = c .before .before .before .before .before .before .before .before .before .before .before .before .before .before .before .pre .0 .good
+unfolding Whole
+fill-requires c κs = let pre = c .before .before .before .before .before .before .before .pre in (pre .0, pre .1, pre .2)
 
 ask-requires : tie.Need-ask-requires
 unfolding Full Whole
 ask-requires c κs =
-    let pre = c .before .before .before .before .before .before .before .before .before .before .before .before .before .before .before .before .before .before .before .before .before .before .pre in
-    let tables = c .before .before .before .before .before .before .before .before .before .before .before .before .fill .kept .1 .1 .1 .1 .1 .1 .1 .1 .1 .1 in
-    let asked = tables .0 ∙ pre .2 in
-    (pre .0, tables .1 .0 ∙ pre .1, c .before .before .before .before .before .before .thread .kept .1 .1 .0 ∙ asked, pre .3, pre .4, c .before .before .before .before .before .before .before .before .before .before .before .before .before .before .before .before .words-of .ensures, c .before .before .before .before .before .before .thread .ensures asked)
+    let pre = c .before .before .before .before .before .before .before .before .before .before .before .before .before .before .before .pre in
+    let filled = c .before .before .before .before .before .before .before in
+    let tables = filled .fill .kept .1 .1 .1 .1 .1 .1 .1 .1 .1 in
+    (pre .0, tables .1 .0 ∙ pre .1, tables .0 ∙ pre .2, pre .3, pre .4, filled .fill .ensures .1)
 
 same-length : tie.Need-same-length
 same-length c = search needs
@@ -40,5 +32,4 @@ returns : tie.Need-returns
 returns c = search needs
 
 pub evaluate-spec : {M : Type 1} → statement M
-evaluate-spec =
-    tie.close (tie.spec words-of-requires fill-requires thread-requires ask-requires same-length same-length-2 same-length-3 returns)
+evaluate-spec = tie.close (tie.spec fill-requires ask-requires same-length same-length-2 same-length-3 returns)
