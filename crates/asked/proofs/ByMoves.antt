@@ -5,7 +5,6 @@ use mathlib.Core.Path.{_≡_, refl, _∙_}
 use mathlib.Core.Bool.{Bool, true, false}
 use mathlib.Core.Logic.{_≢_}
 use mathlib.Core.List.{List}
-use native.Mathlib.Omega.{arith}
 use borrow.Author.Tests.{eq-eqb, lt-ltb}
 use Rattle.meaning.specs.Limits.{terms, records}
 use Rattle.meaning.specs.Site as meant
@@ -14,7 +13,7 @@ use Rattle.meaning.specs.Move as move
 use Rattle.records.specs.declared.Label.{Label}
 use Rattle.records.specs.declared.Label.the-variants.{Any, Term, Test}
 use Rattle.records.specs.Sites.{siteOf}
-use Rattle.fewest.specs.Frame.{Frame, frame}
+use Rattle.fewest.specs.Frame.{Frame}
 use Rattle.fewest.specs.Offer.{Work, copying, resting}
 use Rattle.fewest.specs.Tells.{Tells}
 use Rattle.fewest.specs.Threads.{Threads}

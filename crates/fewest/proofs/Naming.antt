@@ -2,14 +2,14 @@
 -- next has another middle and offers nothing. So the thread seen, every triple was seen.
 use Prim.Native.Nat.{ℕ, zero, suc, _<_, _≤_}
 use mathlib.Core.Path.{_≡_, refl, sym, _∙_}
-use mathlib.Core.Logic.{_≢_}
+use mathlib.Core.Logic.{_⊎_, inl, inr}
 use mathlib.Core.Bool.{Bool}
 use mathlib.Core.List.{List}
 use native.Mathlib.Omega.{arith}
 use native.Mathlib.Decide.{decLt}
 use borrow.Author.Tests.{eqb-true}
-use Rattle.meaning.specs.Site.{Triple, Site, triple}
-use Rattle.meaning.specs.Move.{middle, Axis, self, ahead, inverse, Move, going, coming, any}
+use Rattle.meaning.specs.Site.{Site, triple}
+use Rattle.meaning.specs.Move.{Axis, Move, going, coming, any}
 use Rattle.meaning.specs.Fewest.{Goal}
 use Rattle.records.specs.declared.Label.the-variants.{Term}
 use Rattle.records.specs.Sites.{siteOf}
@@ -18,37 +18,33 @@ use Rattle.records.proofs.Sites.{length-siteOf}
 use Rattle.fewest.specs.Frame.{frame}
 use Rattle.fewest.specs.Offer.{Lowers}
 use Rattle.fewest.specs.Sweep.{sum}
-use Rattle.fewest.specs.Threads.{FirstWith, startAlong, startBy, byMiddle}
+use Rattle.fewest.specs.Threads.{FirstWith, startBy, middleAlong, AtMiddle}
 use Rattle.fewest.specs.Work.{workOf, QuietBy}
 use Rattle.fewest.proofs.Sweeps.{swept-weaken}
 use Rattle.fewest.proofs.Loops.{Seen}
 use Rattle.fewest.proofs.ByTriples.{Takes, forwards, backwards, by-triple}
 
--- the middle that a triple has along an axis; staying takes none
-abbrev pub middleAlong : Axis → Triple → ℕ
-middleAlong self x = x .subject
-middleAlong (ahead d) x = middle d x
-middleAlong (inverse d) x = middle d x
+-- Of the axes that take triples the first two have the predicate in their middle, the next two the object, the last two the subject.
+pub middle-predicate : {a : ℕ} → (a ≡ 1) ⊎ (a ≡ 2) → AtMiddle (axisNumbered a) 5
+unfolding axisNumbered
+middle-predicate (inl e) = rw e (record { moving = λ z. omega arith; known = omega arith; starts = λ x. refl })
+middle-predicate (inr e) = rw e (record { moving = λ z. omega arith; known = omega arith; starts = λ x. refl })
 
--- an axis that takes triples and starts where this one has its middle
-pub record AtMiddle (a : Axis) (by : ℕ) : Type 0 where
-  pub moving : by ≢ 0
-  pub known : by ≤ lastAxis
-  pub starts : (x : Triple) → startAlong (axisNumbered by) x ≡ middleAlong a x
+pub middle-object : {a : ℕ} → (a ≡ 3) ⊎ (a ≡ 4) → AtMiddle (axisNumbered a) 2
+unfolding axisNumbered
+middle-object (inl e) = rw e (record { moving = λ z. omega arith; known = omega arith; starts = λ x. refl })
+middle-object (inr e) = rw e (record { moving = λ z. omega arith; known = omega arith; starts = λ x. refl })
 
-middle-number : (a : ℕ) → a ≢ 0 → a ≤ lastAxis → AtMiddle (axisNumbered a) (byMiddle a)
-unfolding axisNumbered byMiddle
-middle-number zero e l = absurd (e refl)
-middle-number (suc zero) e l = record { moving = λ z. omega arith; known = omega arith; starts = λ x. refl }
-middle-number (suc (suc zero)) e l = record { moving = λ z. omega arith; known = omega arith; starts = λ x. refl }
-middle-number (suc (suc (suc zero))) e l = record { moving = λ z. omega arith; known = omega arith; starts = λ x. refl }
-middle-number (suc (suc (suc (suc zero)))) e l = record { moving = λ z. omega arith; known = omega arith; starts = λ x. refl }
-middle-number (suc (suc (suc (suc (suc zero))))) e l = record { moving = λ z. omega arith; known = omega arith; starts = λ x. refl }
-middle-number (suc (suc (suc (suc (suc (suc zero)))))) e l = record { moving = λ z. omega arith; known = omega arith; starts = λ x. refl }
-middle-number (suc (suc (suc (suc (suc (suc (suc a))))))) e l = absurd (omega arith)
-
-pub at-middle : {by : ℕ} (a : ℕ) → by ≡ byMiddle a → a ≢ 0 → a ≤ lastAxis → AtMiddle (axisNumbered a) by
-at-middle a e takes known = rw e (middle-number a takes known)
+pub middle-subject : (a : ℕ) → 5 ≤ a → a ≤ lastAxis → AtMiddle (axisNumbered a) 1
+unfolding axisNumbered
+middle-subject zero l h = absurd (omega arith)
+middle-subject (suc zero) l h = absurd (omega arith)
+middle-subject (suc (suc zero)) l h = absurd (omega arith)
+middle-subject (suc (suc (suc zero))) l h = absurd (omega arith)
+middle-subject (suc (suc (suc (suc zero)))) l h = absurd (omega arith)
+middle-subject (suc (suc (suc (suc (suc zero))))) l h = record { moving = λ z. omega arith; known = omega arith; starts = λ x. refl }
+middle-subject (suc (suc (suc (suc (suc (suc zero)))))) l h = record { moving = λ z. omega arith; known = omega arith; starts = λ x. refl }
+middle-subject (suc (suc (suc (suc (suc (suc (suc a))))))) l h = absurd (omega arith)
 
 middle-is : {s : Site} {a : Axis} {k t m u : ℕ} → Takes a → Move s a any k t m u → m ≡ middleAlong a (triple s k)
 middle-is forwards (going p i) = p .passes

@@ -3,13 +3,11 @@
 use Prim.Native.Nat.{ℕ, suc, _+_, _<_, _≤_}
 use mathlib.Core.Path.{_≡_}
 use mathlib.Core.Logic.{_≢_}
-use mathlib.Core.Bool.{cond}
 use mathlib.Core.List.{List}
 use lib.ListN.{length, getD, set}
-use lib.Dec.{eqb}
 use Rattle.meaning.specs.Limits.{terms, triples}
 use Rattle.meaning.specs.Site.{Triple, Site, triple}
-use Rattle.meaning.specs.Move.{start, finish, Axis, self, ahead, inverse}
+use Rattle.meaning.specs.Move.{start, finish, middle, Axis, self, ahead, inverse}
 use Rattle.records.specs.Sites.{Accepted, siteOf}
 use Rattle.records.specs.Rules.{lastAxis, axisNumbered}
 use Rattle.fewest.specs.Cells.{cells, nothing}
@@ -103,6 +101,14 @@ pub record SubjectNext (b : List ℕ) (n t k j : ℕ) : Type 0 where
   pub later : k < j
   pub next : subjectOf b n k ≡ t → FirstWith (subjectOf b n) n t (suc k) j
 
--- the axis that starts where the axis with this number has its middle
-unfoldable pub byMiddle : ℕ → ℕ
-byMiddle a = cond (eqb a 1) 5 (cond (eqb a 2) 5 (cond (eqb a 3) 2 (cond (eqb a 4) 2 1)))
+-- the middle that a triple has along an axis; staying takes none
+abbrev pub middleAlong : Axis → Triple → ℕ
+middleAlong self x = x .subject
+middleAlong (ahead d) x = middle d x
+middleAlong (inverse d) x = middle d x
+
+-- an axis that takes triples and starts where this one has its middle
+pub record AtMiddle (a : Axis) (by : ℕ) : Type 0 where
+  pub moving : by ≢ 0
+  pub known : by ≤ lastAxis
+  pub starts : (x : Triple) → startAlong (axisNumbered by) x ≡ middleAlong a x

@@ -9,14 +9,16 @@ use records::site::OBJECT;
 use records::site::PREDICATE;
 use records::site::SUBJECT;
 use records::site::term_at;
-ghost use Prim.Native.Nat.{_+_, _*_, _<_};
+ghost use Prim.Native.Nat.{_+_, _*_, _<_, _≤_};
 ghost use mathlib.Core.Path.{_≡_};
+ghost use mathlib.Core.Logic.{_≢_};
 ghost use lib.ListN.{length};
 ghost use Rattle.meaning.specs.Limits.{terms, records};
 ghost use Rattle.records.specs.Sites.{Accepted};
+ghost use Rattle.records.specs.Rules.{lastAxis, axisNumbered};
 ghost use Rattle.fewest.specs.Cells.{values, cells};
 ghost use Rattle.fewest.specs.Work.{Has};
-ghost use Rattle.fewest.specs.Threads.{Blank, Headed, ThreadedOne, Threads, ThreadFirst, ThreadNext, SubjectNext, byMiddle};
+ghost use Rattle.fewest.specs.Threads.{Blank, Headed, ThreadedOne, Threads, ThreadFirst, ThreadNext, SubjectNext, AtMiddle};
 
 // Where the first triples and the next ones stand; what is behind them is free.
 const FIRST_SUBJECT: usize = 0;
@@ -173,7 +175,7 @@ pub fn witness(scratch: &[u8], t: usize) -> usize {
 
 // The axis that starts where this one has its middle: along it the triples with a named middle are threaded.
 pub fn by_middle(axis: usize) -> usize
-    ensures { λ by. ⌜ by ≡ byMiddle axis ⌝ }
+    ensures { λ by. ⌜ (axis ≢ 0 → axis ≤ lastAxis → AtMiddle (axisNumbered axis) by) ⌝ }
 {
     match axis {
         1 => 5,

@@ -24,7 +24,6 @@ use mathlib.Core.List.{
 use mathlib.Core.Logic.{_⊎_, inl, inr, ⊎-elim, ⊎-map, _↔_}
 use native.Mathlib.Decide.{ℕ-discrete, decLt}
 use native.Mathlib.Nat.{add-zero, add-suc, suc-mul, zero-mul, le-antisymm, le-refl}
-use native.Mathlib.Numerals.{add-one}
 use native.Mathlib.Omega.{arith}
 use lib.ListN.{length, length-append, length-map}
 use Rattle.meaning.specs.Question.{Question, question, Different, empty, more, Count, Tells}
@@ -147,14 +146,6 @@ count-with {P} {n} a c = go (stands a (c .list))
 unfoldable pub total : ℕ → (ℕ → ℕ) → ℕ
 total zero w = 0
 total (suc n) w = total n w + w n
-
-pub total-none : (w : ℕ → ℕ) → total 0 w ≡ 0
-unfolding total
-total-none w = refl
-
-pub total-more : (n : ℕ) (w : ℕ → ℕ) → total (n + 1) w ≡ total n w + w n
-unfolding total
-total-more n w = rw add-one refl
 
 pub total-same : (n k : ℕ) → total n (λ i. k) ≡ n * k
 unfolding total

@@ -10,8 +10,7 @@ use lib.ListN.{length, length-append, List·getD-append}
 use lib.Seq.{getD-at}
 use Rattle.meaning.specs.Limits.{terms, triples}
 use Rattle.meaning.specs.Site as meant
-use Rattle.records.specs.Sites.{tripleWidth, tripleOf, inCode, SiteRead, ended, denied, one-more, Checked, siteOf, Ascending, Accepted}
-use Rattle.records.specs.declared.Triple.{Triple}
+use Rattle.records.specs.Sites.{tripleWidth, tripleOf, SiteRead, ended, denied, one-more, Checked, siteOf, Ascending, Accepted}
 use Rattle.records.specs.declared.site.SiteAnswer.{SiteAnswer}
 use Rattle.records.specs.declared.site.SiteAnswer.the-variants.{Site}
 use Rattle.records.proofs.SiteRecord.{Whole, whole, ends, Terms, all-terms, in-order}
@@ -48,10 +47,6 @@ triple-siteOf s (suc n) k h = ⊎-elim here (earlier (triple-siteOf s n k)) (eq-
     earlier : (k < n → meant.triple (siteOf s n) k ≡ tripleOf s (k * tripleWidth)) → k < n →
         meant.triple (siteOf s n ++ (tripleOf s (n * tripleWidth) ∷ [])) k ≡ tripleOf s (k * tripleWidth)
     earlier same l = List·getD-append (siteOf s n) _ _ k (rw (length-siteOf s n) l) ∙ same l
-
--- the triple that the code reads there is triple number k
-pub read-siteOf : (s : List ℕ) {n k : ℕ} {x : Triple} → x ≡ inCode (tripleOf s (k * tripleWidth)) → k < n → x ≡ inCode (meant.triple (siteOf s n) k)
-read-siteOf s {n} {k} read h = rw (triple-siteOf s n k h) read
 
 -- what it shows that reading on from record number k finds n triples in all
 record Rest (s : List ℕ) (k n : ℕ) : Type 0 where

@@ -1,7 +1,6 @@
 -- `asked::chase::chase` meets its contract: each turn is at the term that is next, and when there is none, no question waits.
 -- The measure is what is left of the turns that the queue may give, and the questions that are not served.
 use Prim.Native.Nat.{_+_, _-_}
-use native.Mathlib.Omega.{arith}
 use Rattle.meaning.specs.Limits.{terms}
 use Rattle.meaning.specs.Fewest.{anywhere}
 use Rattle.fewest.specs.Pairs.{pairs}

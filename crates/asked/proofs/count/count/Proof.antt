@@ -1,11 +1,8 @@
 -- `asked::count::count` meets its contract: the parts passed are counted, then the rest behind them.
 -- The measure is how many parts are left.
-use Prim.Native.Nat.{_≤_, _-_, _+_, _*_}
-use mathlib.Core.Path.{_≡_, refl}
+use Prim.Native.Nat.{_≤_, _-_, _*_}
 use native.Mathlib.Omega.{arith}
-use lib.ListN.{length, take}
 use Rattle.asked.specs.Count.{part, Ones}
-use Rattle.asked.specs.Seek.{Bits}
 use Rattle.asked.proofs.Sums.{ones-none, ones-then, ones-to, ones-most, ones-all}
 use Rattle.asked.proofs.count.count.Statement.{statement}
 use Rattle.asked.proofs.count.count.Tie as tie

@@ -1,9 +1,7 @@
 -- `asked::count::count_part` meets its contract: each entry adds at most 1, so that a byte holds the count of a part.
 -- The measure is what is left of it.
-use Prim.Native.Nat.{_≤_, _-_, _+_}
-use mathlib.Core.Path.{_≡_, refl}
+use Prim.Native.Nat.{_≤_, _-_}
 use native.Mathlib.Omega.{arith}
-use lib.ListN.{length, take}
 use Rattle.asked.specs.Count.{part, Ones}
 use Rattle.asked.specs.Seek.{Bits}
 use Rattle.asked.proofs.Sums.{ones-none, ones-more, ones-to}

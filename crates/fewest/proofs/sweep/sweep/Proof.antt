@@ -5,7 +5,6 @@ use mathlib.Core.Path.{_≡_, _∙_, ap}
 use mathlib.Core.Bool.{false}
 use native.Mathlib.Omega.{arith}
 use lib.ListN.{length}
-use borrow.Author.Needs.{needs}
 use Rattle.meaning.specs.Limits.{records}
 use Rattle.records.specs.Sites.{siteOf}
 use Rattle.records.specs.Rules.{recOf, recordsOf}

@@ -20,7 +20,7 @@ use Rattle.fewest.specs.Work.{goalOf, workOf, QuietBy}
 use Rattle.fewest.proofs.Sweeps.{lowers-chain, lowers-then}
 use Rattle.fewest.proofs.Loops.{Seen, seen-none, seen-more}
 use Rattle.fewest.proofs.ByTriples.{axis-takes, moves-swept}
-use Rattle.fewest.proofs.Naming.{at-middle, thread-seen}
+use Rattle.fewest.proofs.Naming.{thread-seen}
 use Rattle.fewest.proofs.sweep.sweep_name.Statement.{statement}
 use Rattle.fewest.proofs.sweep.sweep_name.Tie as tie
 
@@ -52,7 +52,7 @@ loop-holds c =
       omega arith,
       λ takes known. stay,
       λ takes known threads.
-          let at = at-middle (start .args .axis) (c .before .by-middle .ensures) takes known in
+          let at = c .before .by-middle .ensures takes known in
           let first = c .first-from .ensures _ _ threads (at .moving) (at .known) (start .pre .4) in
           (λ h. first .own h .1, thread-seen _ (axis-takes _ takes) at _ _ first (omega arith) (seen-none lowers-chain)),
     )
@@ -87,7 +87,7 @@ loop-again c =
       λ takes known. lowers-then (inv .1 takes known) (look takes known .reached),
       λ takes known threads.
           let (own, seen) = inv .2 takes known threads in
-          let at = at-middle (start .args .axis) (after-by-middle .by-middle .ensures) takes known in
+          let at = after-by-middle .by-middle .ensures takes known in
           let next = c .next-from .ensures .next threads (at .moving) (at .known) (own (turn .loop-test .taken)) in
           (λ h. next .own h .1, thread-seen _ (axis-takes _ takes) at _ _ next (omega arith) (seen-more lowers-chain seen (look takes known))),
     )
