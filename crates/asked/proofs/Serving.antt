@@ -18,6 +18,7 @@ use Rattle.fewest.specs.Lows.{low, lows}
 use Rattle.fewest.specs.Offer.{place}
 use Rattle.fewest.specs.Threads.{free}
 use Rattle.fewest.proofs.Decoded.{cells-same}
+use Rattle.fewest.proofs.Keeping.{kept-byte}
 use Rattle.fewest.proofs.Lows.{getD-lows, map-set-keep, lows-set-keep}
 use Rattle.fewest.proofs.Places.{stored, one-place}
 use Rattle.asked.specs.Mark.{blank}
@@ -147,6 +148,17 @@ put-aside {b} {d} put behind = record {
     below = λ j h. put .others j (omega arith);
   };
 }
+
+-- A byte behind the threads was left with its two low bits.
+pub cut-aside : (b : List ℕ) (i : ℕ) → free + free ≤ i → Aside b (set b i (getD b i 0 % lowest))
+unfolding serveds
+cut-aside b i behind =
+    let v = getD b i 0 % lowest in
+    let e : v % lowest ≡ v = omega arith in
+    record {
+      same = lows-set-keep b i v (omega arith);
+      kept = record { served = map-set-keep serving b i v (rw e); below = kept-byte b i v behind .same };
+    }
 
 -- One question more is served, if it waited.
 module _ {r t : ℕ} {b d : List ℕ} (one : OneServed r t b d) where

@@ -11,6 +11,7 @@ use fewest::look::move_at;
 use fewest::look::parts_of;
 use fewest::threads::FREE;
 use fewest::threads::first_from;
+use fewest::threads::next_by;
 use fewest::threads::next_from;
 use fewest::word::word;
 use records::Label;
@@ -60,14 +61,18 @@ fn push(asked: &mut [u8], tail: usize, t: usize) -> usize
     tail + 1
 }
 
-// No term waits.
+// No term waits. The cells are cleared byte by byte, so that the compiler takes many at once; the two low bits of each stay.
 fn clear_waiting(asked: &mut [u8])
     ensures { λ _. ⌜ Aside (now (asked .entry)) (now (asked .exit)) ⌝ }
 {
-    let mut t = 0;
-    while t < TERMS {
-        put_cell(asked, WAITING + t, 0);
-        t += 1;
+    let end = WAITING + WAITING + TERMS + TERMS;
+    if asked.len() < end {
+        return;
+    }
+    let mut i = WAITING + WAITING;
+    while i < end {
+        asked[i] = asked[i] % 4;
+        i += 1;
     }
 }
 
@@ -129,6 +134,7 @@ fn go_all<'a>(
     let axis = step.axis;
     let parts = parts_of(axis);
     let mut tail = was;
+    let by = next_by(axis);
     let mut k = first_from(asked, axis, t);
     while k < triples {
         tail = go(
@@ -145,7 +151,7 @@ fn go_all<'a>(
             r,
             tail,
         );
-        k = next_from(site, triples, asked, axis, t, k);
+        k = next_from(site, triples, asked, by, t, k);
     }
     tail
 }

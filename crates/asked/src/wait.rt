@@ -1,4 +1,5 @@
 // Whether a question waits: the look at the table that certifies that nothing asked for is unmarked.
+use fewest::rows::greater;
 use records::TERMS;
 ghost use mathlib.Core.Path.{_≡_};
 ghost use mathlib.Core.Bool.{false};
@@ -6,16 +7,6 @@ ghost use Prim.Native.Nat.{_*_, _<_, _≤_};
 ghost use Rattle.meaning.specs.Limits.{terms, records};
 ghost use Rattle.asked.specs.Serve.{Waits, NoneWaits, LeftOver};
 ghost use Rattle.asked.specs.Seek.{Whole};
-
-// The greater of two.
-fn greater(a: u8, b: u8) -> u8
-    ensures { λ c. ⌜ (a ≤ c) × (b ≤ c) ⌝ }
-{
-    if a < b {
-        return b;
-    }
-    a
-}
 
 // Whether a question of the first records may wait; if not, none does. No byte is left out, so many are looked at at once.
 fn waits(asked: &[u8], count: usize) -> bool

@@ -2,7 +2,7 @@
 // numbers tell; and the ends, where a table of ends is lent.
 use asked::spread::ask;
 use fewest::Goal;
-use fewest::sweep::fill;
+use levels::fill::fill;
 use records::RECORDS;
 ghost use Prim.Native.Nat.{_<_};
 ghost use lib.ListN.{length};

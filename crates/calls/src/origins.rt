@@ -10,7 +10,7 @@ use asked::count::count;
 use asked::spread::clear;
 use fewest::Goal;
 use fewest::starts::tell;
-use fewest::sweep::fill;
+use levels::fill::fill;
 use records::RECORDS;
 use records::Reason;
 use records::Refusal;

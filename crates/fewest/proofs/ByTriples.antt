@@ -50,8 +50,8 @@ pub by-triple : {s : Site} {a : Axis} {l : move.Label} {k t m u : ℕ} → Takes
 by-triple forwards (going p i) = (p .below, going p tt, i)
 by-triple backwards (coming p i) = (p .below, coming p tt, i)
 
--- each triple seen, every offer was seen
-moves-quiet : {F : Frame} {a : Axis} {r : ℕ} {X : List ℕ} → Takes a → (l : Label) →
+-- Each triple seen, every offer was seen.
+pub moves-quiet : {F : Frame} {a : Axis} {r : ℕ} {X : List ℕ} → Takes a → (l : Label) →
     ((k : ℕ) → k < length (F .site) → QuietBy F a l r k X) → Quiet F (workOf a l) r X
 moves-quiet takes Any seen t v b (by-step {k = k} {m = m} {u = u} {v = w} x c) =
     let (below, y, i) = by-triple takes x in seen k below t m u w y refl c

@@ -1,6 +1,6 @@
 -- The laws of numbers in byte pairs: what is read at a place, what a store leaves, and what filling makes.
 -- Above them no proof looks at a byte.
-use Prim.Native.Nat.{ℕ, suc, zero, _+_, _*_, _/_, _<_}
+use Prim.Native.Nat.{ℕ, suc, zero, _+_, _*_, _/_, _<_, _≤_}
 use mathlib.Core.Path.{_≡_, refl, sym, ap, _∙_}
 use mathlib.Core.List.{List, [], _∷_, _++_, append-nil}
 use native.Mathlib.Omega.{arith}
@@ -40,6 +40,17 @@ module _ (made : ℕ → ℕ → ℕ) where
 pub pairs-at : (b : List ℕ) (i : ℕ) → i + i + 1 < length b → getD (pairs b) i 0 ≡ getD b (i + i) 0 * base + getD b (i + i + 1) 0
 unfolding pairs
 pairs-at = at _
+
+pub pairs-long : (b : List ℕ) → length (pairs b) ≡ length b / 2
+unfolding pairs
+pairs-long = long _
+
+-- two bytes make no number above the greatest
+pub pairs-top : (b : List ℕ) → ((i : ℕ) → getD b i 0 < base) → (i : ℕ) → getD (pairs b) i 0 < base * base
+pairs-top b bytes i = elim (decLt (i + i + 1) (length b)) [
+  | yes h ↦ let high = bytes (i + i) in let low = bytes (i + i + 1) in rw (pairs-at b i h) (omega arith)
+  | no h ↦ let past : length (pairs b) ≤ i = rw (pairs-long b) (omega arith) in rw (List·getD-eq-default (pairs b) 0 past) (omega arith)
+]
 
 pub pairs-set : (b : List ℕ) (i x y : ℕ) → i + i + 1 < length b → pairs (set (set b (i + i) x) (i + i + 1) y) ≡ set (pairs b) i (x * base + y)
 unfolding pairs

@@ -6,8 +6,17 @@ use mathlib.Core.Bool.{Bool, true}
 use mathlib.Core.List.{List}
 use native.Mathlib.Omega.{arith}
 use lib.ListN.{getD, set}
+use Rattle.meaning.specs.Limits.{none}
+use Rattle.records.specs.Bytes.{base}
+use Rattle.fewest.specs.Pairs.{pairs}
 use Rattle.fewest.specs.Offer.{place, view}
 use Rattle.fewest.specs.Table.{Lowered}
+use Rattle.fewest.proofs.Decoded.{pairs-top}
+
+-- no number of bytes is above none
+pub view-top : (b : List ℕ) → ((i : ℕ) → getD b i 0 < base) → (r t : ℕ) → view (pairs b) r t ≤ none
+unfolding view none
+view-top b bytes r t = let k = pairs-top b bytes (place r t) in omega arith
 
 module _ (T : List ℕ) (r t : ℕ) {i g : ℕ} (here : i ≡ place r t) (read : g ≡ getD T i 0) where
   pub read-view : g ≡ view T r t

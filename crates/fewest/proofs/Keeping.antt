@@ -1,5 +1,4 @@
 -- The laws of kept threads: nothing was stored, one store after another, a store behind them, and that they stand as they stood.
--- And of the levels, which lower the numbers and keep the threads.
 use Prim.Native.Nat.{ℕ, _+_, _<_, _≤_}
 use mathlib.Core.Path.{_≡_, refl, sym, _∙_}
 use mathlib.Core.List.{List}
@@ -7,15 +6,11 @@ use native.Mathlib.Omega.{arith}
 use native.Mathlib.Decide.{decLt}
 use lib.ListN.{length, getD, set, length-set, List·getD-eq-default}
 use lib.Seq.{getD-set-other}
-use Rattle.meaning.specs.Fewest.{Goal}
 use Rattle.records.specs.Sites.{Accepted}
 use Rattle.fewest.specs.Cells.{cells}
-use Rattle.fewest.specs.Table.{Full}
 use Rattle.fewest.specs.Threads.{subject-first, predicate-first, object-first, predicate-next, object-next, free, Threads}
-use Rattle.fewest.specs.Work.{Hinted}
-use Rattle.fewest.specs.Kept.{Below, Kept, Levelled}
+use Rattle.fewest.specs.Kept.{Below, Kept}
 use Rattle.fewest.proofs.Decoded.{cells-at, cells-long}
-use Rattle.fewest.proofs.Hints.{hinted-none, hinted-then, hinted-full}
 
 pub kept-none : {X : List ℕ} → Kept X X
 kept-none = record { long = refl; same = λ i h. refl }
@@ -62,25 +57,3 @@ threads-kept good below threads =
         next = λ i l h. rw (below (object-next + i) (omega arith)) (threads .objects .next i l h);
       };
     }
-
-module _ {b rule up role first : List ℕ} {n : ℕ} {g : Goal} where
-  -- nothing was done
-  pub levelled-none : {N X : List ℕ} → Levelled b n rule up role first g N N X X
-  levelled-none = record { numbers = hinted-none; scratch = kept-none }
-
-  -- the numbers alone were lowered
-  pub levelled-numbers : {N M X : List ℕ} → Hinted b n rule up role first g N M → Levelled b n rule up role first g N M X X
-  levelled-numbers p = record { numbers = p; scratch = kept-none }
-
-  -- scratch alone was stored in
-  pub levelled-scratch : {N X Y : List ℕ} → Kept X Y → Levelled b n rule up role first g N N X Y
-  levelled-scratch p = record { numbers = hinted-none; scratch = p }
-
-  -- one after another
-  pub levelled-then : {N M L X Y Z : List ℕ} → Levelled b n rule up role first g N M X Y → Levelled b n rule up role first g M L Y Z →
-      Levelled b n rule up role first g N L X Z
-  levelled-then p q = record { numbers = hinted-then (p .numbers) (q .numbers); scratch = kept-then (p .scratch) (q .scratch) }
-
-  -- a full table stays full
-  pub levelled-full : {N M X Y : List ℕ} → Levelled b n rule up role first g N M X Y → Full N → Full M
-  levelled-full p full = hinted-full (p .numbers) full

@@ -18,13 +18,13 @@ pub mod Rowwise
 pub mod Tells
 pub mod Resting
 pub mod ByTriples
+pub mod Quieting
 pub mod Naming
 pub mod ByRecords
 pub mod Operands
 pub mod Linking
 pub mod Readiness
 pub mod Telling
-pub mod Hints
 pub mod Threading
 pub mod Words
 pub mod Keeping

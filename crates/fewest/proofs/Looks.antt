@@ -87,6 +87,11 @@ rest-offered (Term n) (suc zero) h free (by-step (staying x) c) = (_, refl, rw (
 rest-offered Test (suc zero) h free (by-test (staying x) i c) = (_, refl, rw (x .ends) at c, lt-ltb _ _ (rw (x .passes) at i))
 rest-offered l (suc (suc cost)) h free o = absurd (omega arith)
 
+-- The entry is the cost at most: staying offers no less.
+pub rest-low : {s : Site} {up role : List ℕ} {g : Goal} {r t : ℕ} (l : Label) (cost : ℕ) (T : List ℕ) {was : Bool} → cost < 2 → (cost ≡ 0 → l ≡ Any) →
+    view T r t ≤ cost → Looks (frame s up role g) (stayingBy cost l) r (QuietAt (frame s up role g) (stayingBy cost l) r t) T T was was
+rest-low l cost T few free low = swept-none lowers-chain λ x o. let (w, e, c, _) = rest-offered l cost few free o in omega arith
+
 -- A look at staying at t, for record r with this label.
 module _ {s : Site} {up role : List ℕ} {g : Goal} {r t : ℕ} (l : Label) (cost : ℕ) (T : List ℕ) (few : cost < 2) (free : cost ≡ 0 → l ≡ Any)
     {ok was : Bool} (told : ok ≡ allowing T l r t) where

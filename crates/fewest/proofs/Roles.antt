@@ -34,6 +34,10 @@ module _ {F : Frame} {T : List ℕ} where
   continues-says (again q) = rw q (inl refl)
   continues-says (ending q c) = rw q (inr c)
 
+  -- where the role is known
+  pub continues-at : {r u v : ℕ} (k : ℕ) → getD (F .role) r 0 ≡ k → Continues F T r u v → Says F T (getD (F .up) r 0) u v k
+  continues-at {r} {u} {v} k q c = subst (λ k. Says F T (getD (F .up) r 0) u v k) q (continues-says c)
+
   pub says-continues : {r u v : ℕ} (k : ℕ) → getD (F .role) r 0 ≡ k → Says F T (getD (F .up) r 0) u v k → Continues F T r u v
   says-continues zero q e = rw e (home q)
   says-continues (suc zero) q e = rw e (held q)

@@ -15,7 +15,8 @@ use Rattle.fewest.proofs.Sweeps.{swept-weaken}
 use Rattle.fewest.proofs.Looks.{looked}
 use Rattle.fewest.proofs.Loops.{Seen}
 
-copied : {F : Frame} {T : List ℕ} {r t a v : ℕ} → Offer F T r t (copying a) v → view T r t ≤ view T a t → view T r t ≤ v
+-- what the other row is not below, the offer is not
+pub copied : {F : Frame} {T : List ℕ} {r t a v : ℕ} → Offer F T r t (copying a) v → view T r t ≤ view T a t → view T r t ≤ v
 copied by-row h = h
 
 -- one look: the entry at t was tried against row a's

@@ -16,7 +16,7 @@ use Rattle.records.proofs.Parts.{byParts, triple-terms, triple-parts}
 use Rattle.records.proofs.Subjects.{accepted-rises}
 use Rattle.fewest.specs.Cells.{cells, nothing}
 use Rattle.fewest.specs.Work.{Has}
-use Rattle.fewest.specs.Threads.{subject-first, predicate-first, object-first, predicate-next, object-next, free, FirstWith, Firsts, Threaded, subjectOf, predicateOf, objectOf, ThreadsFrom, Threads, Blank, Headed, startBy, ThreadNext, SubjectNext}
+use Rattle.fewest.specs.Threads.{subject-first, predicate-first, object-first, predicate-next, object-next, free, FirstWith, Firsts, Threaded, subjectOf, predicateOf, objectOf, ThreadsFrom, Threads, Blank, Headed, startBy, nextsOf, SubjectNext}
 use Rattle.fewest.proofs.Decoded.{cells-long}
 
 -- the threads stand in the table, and a cell can hold each triple's number and one that is none
@@ -230,8 +230,28 @@ module _ (b : List ℕ) {n : ℕ} (good : Accepted b n) (t k : ℕ) where
     };
   }
 
--- Two axes start at the subject.
-pub along-next : (b X : List ℕ) {n axis t k j : ℕ} → (axis ≡ 1) ⊎ (axis ≡ 3) → SubjectNext b n t k j → ThreadNext b n X axis t k j
-unfolding axisNumbered
-along-next b X (inl e) by = rw e (record { later = by .later; next = λ threads moving known own. by .next own })
-along-next b X (inr e) by = rw e (record { later = by .later; next = λ threads moving known own. by .next own })
+-- An axis that takes triples starts at the subject where the site's order tells.
+pub along-order : (b : List ℕ) {n t k j : ℕ} (axis : ℕ) → axis ≢ 0 → axis ≤ lastAxis → nextsOf axis ≡ 0 → SubjectNext b n t k j →
+    startBy axis (siteOf b n) k ≡ t → FirstWith (startBy axis (siteOf b n)) n t (suc k) j
+unfolding axisNumbered nextsOf terms triples
+along-order b zero moving known order by own = absurd (moving refl)
+along-order b (suc zero) moving known order by own = by .next own
+along-order b (suc (suc zero)) moving known order by own = absurd (omega arith)
+along-order b (suc (suc (suc zero))) moving known order by own = by .next own
+along-order b (suc (suc (suc (suc zero)))) moving known order by own = absurd (omega arith)
+along-order b (suc (suc (suc (suc (suc zero))))) moving known order by own = absurd (omega arith)
+along-order b (suc (suc (suc (suc (suc (suc zero)))))) moving known order by own = absurd (omega arith)
+along-order b (suc (suc (suc (suc (suc (suc (suc z))))))) moving known order by own = absurd (omega arith)
+
+-- Elsewhere it starts along threads, and the next triples stand there.
+pub along-threads : (b X : List ℕ) {n : ℕ} (axis : ℕ) → axis ≢ 0 → axis ≤ lastAxis → nextsOf axis ≢ 0 → Threads b n X →
+    (at-first : ℕ) × Threaded (startBy axis (siteOf b n)) n at-first (nextsOf axis) (cells X) 0
+unfolding axisNumbered nextsOf
+along-threads b X zero moving known apart threads = absurd (moving refl)
+along-threads b X (suc zero) moving known apart threads = absurd (apart refl)
+along-threads b X (suc (suc zero)) moving known apart threads = (object-first, threads .objects)
+along-threads b X (suc (suc (suc zero))) moving known apart threads = absurd (apart refl)
+along-threads b X (suc (suc (suc (suc zero)))) moving known apart threads = (predicate-first, threads .predicates)
+along-threads b X (suc (suc (suc (suc (suc zero))))) moving known apart threads = (predicate-first, threads .predicates)
+along-threads b X (suc (suc (suc (suc (suc (suc zero)))))) moving known apart threads = (object-first, threads .objects)
+along-threads b X (suc (suc (suc (suc (suc (suc (suc z))))))) moving known apart threads = absurd (omega arith)

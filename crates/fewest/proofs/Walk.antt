@@ -1,7 +1,7 @@
 -- The walk up the links from a record whose expression is finished, as `left` takes it: what may follow there is among the
 -- numbers passed, or may follow the record that the walk has reached. It ends where one number alone may follow.
 use Prim.Native.Nat.{ℕ, _-_, _<_, _≤_, min}
-use mathlib.Core.Path.{_≡_, refl, subst}
+use mathlib.Core.Path.{_≡_, refl}
 use mathlib.Core.Logic.{_⊎_, inl, inr, ⊎-elim, _≢_}
 use mathlib.Core.List.{List}
 use native.Mathlib.Omega.{arith}
@@ -16,7 +16,7 @@ use Rattle.records.proofs.Tests.{by-test}
 use Rattle.fewest.specs.Frame.{as-whole, as-test, as-first, as-round, Climbs, frame}
 use Rattle.fewest.specs.Offer.{view, Continues, again, ending}
 use Rattle.fewest.specs.Work.{Least}
-use Rattle.fewest.proofs.Roles.{Says, continues-says, says-continues}
+use Rattle.fewest.proofs.Roles.{Says, continues-at, says-continues}
 
 -- the walk from record r has reached record `at`; `best` is the least of the numbers passed, or none
 pub record Walked (up role : List ℕ) (g : Goal) (T : List ℕ) (r u at best : ℕ) : Type 0 where
@@ -35,11 +35,6 @@ module _ {up role : List ℕ} {g : Goal} {T : List ℕ} where
   walk-begins h = record { inside = h; top = omega arith; among = inl refl; onward = λ s w c. c; passed = λ s w c. inr c }
 
   module _ {r u at best : ℕ} (walk : Walked up role g T r u at best) where
-    -- what the record's role says of a number that may follow it
-    says : {s : Site} {w : ℕ} (k : ℕ) → getD role at 0 ≡ k → Continues (frame s up role g) T at u w →
-        Says (frame s up role g) T (getD up at 0) u w k
-    says {s} {w} k q c = subst (λ k. Says (frame s up role g) T (getD up at 0) u w k) q (continues-says c)
-
     -- The walk ends at a record with this role, after which v alone may follow: the least is the least so far or v.
     ends : (k : ℕ) {v : ℕ} → getD role at 0 ≡ k → v ≤ none → ((s : Site) → Says (frame s up role g) T (getD up at 0) u v k) →
         ((s : Site) (w : ℕ) → Says (frame s up role g) T (getD up at 0) u w k → w ≡ v) → Least up role g T r u (min best v)
@@ -47,7 +42,7 @@ module _ {up role : List ℕ} {g : Goal} {T : List ℕ} where
       among = λ s. ⊎-elim
           (λ e. ⊎-elim (λ z. let m : min best v ≡ v = omega arith in rw m (last s)) (λ f. rw e (f s)) (walk .among))
           (λ e. rw e (last s)) (min-either best v);
-      least = λ s w c. ⊎-elim (λ l. omega arith) (λ d. let e = only s w (says k q d) in omega arith) (walk .passed s w c);
+      least = λ s w c. ⊎-elim (λ l. omega arith) (λ d. let e = only s w (continues-at k q d) in omega arith) (walk .passed s w c);
       top = let t = walk .top in omega arith;
     }
       where
@@ -79,5 +74,5 @@ module _ {up role : List ℕ} {g : Goal} {T : List ℕ} where
           among = ⊎-elim (λ e. rw e (walk .among)) (λ e. inr (λ s. rw e (walk .onward s round (again q)))) (min-either best round);
           onward = λ s w c. walk .onward s w (ending q c);
           passed = λ s w c. ⊎-elim (λ l. inl (omega arith))
-              (λ d. ⊎-elim (λ e. inl (omega arith)) inr (says as-round q d)) (walk .passed s w c);
+              (λ d. ⊎-elim (λ e. inl (omega arith)) inr (continues-at as-round q d)) (walk .passed s w c);
         }

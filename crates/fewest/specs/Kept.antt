@@ -3,10 +3,8 @@ use Prim.Native.Nat.{ℕ, _<_}
 use mathlib.Core.Path.{_≡_}
 use mathlib.Core.List.{List}
 use lib.ListN.{length, getD}
-use Rattle.meaning.specs.Fewest.{Goal}
 use Rattle.fewest.specs.Cells.{cells}
 use Rattle.fewest.specs.Threads.{free}
-use Rattle.fewest.specs.Work.{Hinted}
 
 -- the cells before the free ones are as they were
 abbrev pub Below : List ℕ → List ℕ → Type 0
@@ -16,8 +14,3 @@ Below X Y = (i : ℕ) → i < free → getD (cells Y) i 0 ≡ getD (cells X) i 0
 pub record Kept (X Y : List ℕ) : Type 0 where
   pub long : length Y ≡ length X
   pub same : Below X Y
-
--- the numbers are reached by lowering, and of scratch the threads are kept
-pub record Levelled (b : List ℕ) (n : ℕ) (rule up role first : List ℕ) (g : Goal) (N N′ X X′ : List ℕ) : Type 0 where
-  pub numbers : Hinted b n rule up role first g N N′
-  pub scratch : Kept X X′

@@ -11,6 +11,7 @@ pub mod Table
 pub mod Told
 pub mod Sweep
 pub mod Work
+pub mod Rows
 pub mod Threads
 pub mod Tells
 pub mod Words

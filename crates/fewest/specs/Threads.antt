@@ -3,8 +3,10 @@
 use Prim.Native.Nat.{ℕ, suc, _+_, _<_, _≤_}
 use mathlib.Core.Path.{_≡_}
 use mathlib.Core.Logic.{_≢_}
+use mathlib.Core.Bool.{cond}
 use mathlib.Core.List.{List}
 use lib.ListN.{length, getD, set}
+use lib.Dec.{eqb}
 use Rattle.meaning.specs.Limits.{terms, triples}
 use Rattle.meaning.specs.Site.{Triple, Site, triple}
 use Rattle.meaning.specs.Move.{start, finish, middle, Axis, self, ahead, inverse}
@@ -91,10 +93,20 @@ abbrev pub ThreadFirst : List ℕ → (axis t j : ℕ) → Type 0
 ThreadFirst X axis t j =
     (b : List ℕ) (n : ℕ) → Threads b n X → axis ≢ 0 → axis ≤ lastAxis → t < terms → FirstWith (startBy axis (siteOf b n)) n t 0 j
 
--- a later triple than k; by threads the next that starts at t, where k does
-pub record ThreadNext (b : List ℕ) (n : ℕ) (X : List ℕ) (axis t k j : ℕ) : Type 0 where
+-- where the next triples of an axis's threads stand; 0 where the site's order tells
+unfoldable pub nextsOf : ℕ → ℕ
+nextsOf a =
+    cond (eqb a 1) 0
+    (cond (eqb a 3) 0
+    (cond (eqb a 2) object-next
+    (cond (eqb a 6) object-next
+    predicate-next)))
+
+-- a later triple than k; by threads the next that starts at t, where k does, along an axis whose next triples stand there
+pub record ThreadNext (b : List ℕ) (n : ℕ) (X : List ℕ) (by t k j : ℕ) : Type 0 where
   pub later : k < j
-  pub next : Threads b n X → axis ≢ 0 → axis ≤ lastAxis → startBy axis (siteOf b n) k ≡ t → FirstWith (startBy axis (siteOf b n)) n t (suc k) j
+  pub next : (axis : ℕ) → by ≡ nextsOf axis → Threads b n X → axis ≢ 0 → axis ≤ lastAxis → startBy axis (siteOf b n) k ≡ t →
+      FirstWith (startBy axis (siteOf b n)) n t (suc k) j
 
 -- a later triple than k; the next with subject t, where k has it
 pub record SubjectNext (b : List ℕ) (n t k j : ℕ) : Type 0 where
@@ -107,8 +119,21 @@ middleAlong self x = x .subject
 middleAlong (ahead d) x = middle d x
 middleAlong (inverse d) x = middle d x
 
--- an axis that takes triples and starts where this one has its middle
-pub record AtMiddle (a : Axis) (by : ℕ) : Type 0 where
+-- where a triple ends along an axis; staying takes none
+abbrev pub finishAlong : Axis → Triple → ℕ
+finishAlong self x = x .subject
+finishAlong (ahead d) x = finish d x
+finishAlong (inverse d) x = start d x
+
+-- an axis that takes triples and starts at this place of each
+pub record StartsAt (place : Triple → ℕ) (by : ℕ) : Type 0 where
   pub moving : by ≢ 0
   pub known : by ≤ lastAxis
-  pub starts : (x : Triple) → startAlong (axisNumbered by) x ≡ middleAlong a x
+  pub starts : (x : Triple) → startAlong (axisNumbered by) x ≡ place x
+
+-- where another has its middle, and where another ends
+abbrev pub AtMiddle : Axis → ℕ → Type 0
+AtMiddle a by = StartsAt (middleAlong a) by
+
+abbrev pub AtFinish : Axis → ℕ → Type 0
+AtFinish a by = StartsAt (finishAlong a) by

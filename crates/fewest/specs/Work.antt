@@ -24,11 +24,10 @@ use Rattle.fewest.specs.declared.Goal.{Goal}
 use Rattle.fewest.specs.declared.Goal.the-variants.{End, Anywhere}
 use Rattle.fewest.specs.declared.look.Moved.{Moved}
 use Rattle.fewest.specs.declared.look.Parts.{Parts}
-use Rattle.fewest.specs.Pairs.{pairs}
-use Rattle.fewest.specs.Frame.{Climbs, Frame, frame}
+use Rattle.fewest.specs.Frame.{as-whole, Climbs, Frame, frame}
 use Rattle.fewest.specs.Offer.{view, Continues, Work, stepping, proving, copying, resting, worksOf, Offer, Lowers, Quiet, Settles, Settled}
 use Rattle.fewest.specs.Sweep.{sum, Swept}
-use Rattle.fewest.specs.Threads.{Threads}
+use Rattle.fewest.specs.Threads.{Threads, StartsAt}
 
 -- the code's goal is the meaning's
 abbrev pub goalOf : Goal → meaning.Goal
@@ -137,10 +136,21 @@ abbrev pub AxisSwept : List ℕ → ℕ → Step → List ℕ → List ℕ → m
 AxisSwept b n x up role g r T T′ was now =
     x .axis ≢ 0 → x .axis ≤ lastAxis → WorkSwept (frame (siteOf b n) up role g) (workOf (axisNumbered (x .axis)) (x .label)) r T T′ was now
 
--- the triples threaded by the named middle were looked at: by threads of the site, all with that middle
-pub record NameSwept (b : List ℕ) (n : ℕ) (X : List ℕ) (axis term : ℕ) (up role : List ℕ) (g : meaning.Goal) (r : ℕ) (T T′ : List ℕ) (was now : Bool) : Type 0 where
-  pub reached : axis ≢ 0 → axis ≤ lastAxis → Lowers (frame (siteOf b n) up role g) (workOf (axisNumbered axis) (Term term)) r T T′
-  pub swept : axis ≢ 0 → axis ≤ lastAxis → Threads b n X → WorkSwept (frame (siteOf b n) up role g) (workOf (axisNumbered axis) (Term term)) r T T′ was now
+-- record r finishes the rule, and at v alone, if that is a term
+abbrev pub OnlyEnd : List ℕ → meaning.Goal → ℕ → ℕ → Type 0
+OnlyEnd role g r v = v < terms → (getD role r 0 ≡ as-whole) × (g ≡ end v)
+
+-- a triple that has another term than this at a place offers a step of record r nothing that is lower
+abbrev pub Others : List ℕ → ℕ → (meant.Triple → ℕ) → ℕ → List ℕ → List ℕ → meaning.Goal → Axis → Label → ℕ → List ℕ → Type 0
+Others b n place term up role g a l r T =
+    (i : ℕ) → place (meant.triple (siteOf b n) i) ≢ term → QuietBy (frame (siteOf b n) up role g) a l r i T
+
+-- the triples of a thread were looked at: by threads of the site, all that may offer something
+pub record ThreadSwept (b : List ℕ) (n : ℕ) (X : List ℕ) (x : Step) (by term : ℕ) (up role : List ℕ) (g : meaning.Goal) (r : ℕ) (T T′ : List ℕ) (was now : Bool) : Type 0 where
+  pub reached : x .axis ≢ 0 → x .axis ≤ lastAxis → Lowers (frame (siteOf b n) up role g) (workOf (axisNumbered (x .axis)) (x .label)) r T T′
+  pub swept : x .axis ≢ 0 → x .axis ≤ lastAxis → Threads b n X → (place : meant.Triple → ℕ) → StartsAt place by →
+      Others b n place term up role g (axisNumbered (x .axis)) (x .label) r T →
+      WorkSwept (frame (siteOf b n) up role g) (workOf (axisNumbered (x .axis)) (x .label)) r T T′ was now
 
 abbrev pub StepSwept : List ℕ → ℕ → Step → List ℕ → List ℕ → meaning.Goal → ℕ → List ℕ → List ℕ → Bool → Bool → Type 0
 StepSwept b n x up role g r T T′ was now =
@@ -184,25 +194,3 @@ SweptOver b n rule up role first g T T′ now =
 pub record SettledOver (b : List ℕ) (n : ℕ) (rule up role first : List ℕ) (g : meaning.Goal) (T T′ : List ℕ) : Type 0 where
   pub reached : Settles (frame (siteOf b n) up role g) (recordsOf rule) first T T′
   pub settled : Settled (frame (siteOf b n) up role g) (recordsOf rule) first T′
-
--- staying was tried for row r, wherever
-abbrev pub Stayed : List ℕ → ℕ → List ℕ → List ℕ → meaning.Goal → Label → ℕ → ℕ → List ℕ → List ℕ → Type 0
-Stayed b n up role g l cost r T T′ = (cost ≡ 0 → l ≡ Any) → Lowers (frame (siteOf b n) up role g) (staying cost l) r T T′
-
--- a move for a step of record r with this label was tried, whatever triple and axis make it
-abbrev pub Reached : Moved → Label → List ℕ → List ℕ → meaning.Goal → ℕ → List ℕ → List ℕ → Type 0
-Reached m l up role g r T T′ =
-    (s : meant.Site) (a : Axis) (k : ℕ) → Move s a any k (m .from) (m .middle) (m .to) → Lowers (frame s up role g) (workOf a l) r T T′
-
--- some of the works of record r were tried
-abbrev pub RecordWorked : List ℕ → ℕ → Record → ℕ → List ℕ → List ℕ → meaning.Goal → ℕ → List ℕ → List ℕ → Type 0
-RecordWorked b n x f up role g r T T′ = Rows (λ w. Lowers (frame (siteOf b n) up role g) w r) (worksOf (recOf x) r f) T T′
-
--- record r is this step
-unfoldable pub Stepping : (rule starts : List ℕ) → ℕ → Step → Type 0
-Stepping rule starts r x = recordAt rule (getD starts r 0) ≡ kind.Step x
-
--- the lent table N became N′ by lowering along offers alone; which of them were looked at is not said
-pub record Hinted (b : List ℕ) (n : ℕ) (rule up role first : List ℕ) (g : meaning.Goal) (N N′ : List ℕ) : Type 0 where
-  pub long : length N′ ≡ length N
-  pub reached : Settles (frame (siteOf b n) up role g) (recordsOf rule) first (pairs N) (pairs N′)

@@ -111,17 +111,18 @@ pub fn look<'a>(
     ensures { λ changed. ⌜ Looked (now (site .entry)) k parts label (now (up .entry)) (now (role .entry)) (goalOf goal) r (pairs (now (numbers .entry))) (pairs (now (numbers .exit))) was changed ⌝ }
 {
     let m = move_at(site, k, parts);
+    if number(numbers, r, m.from) <= 1 {
+        return was;
+    }
     if allows(numbers, label, r, m.middle) {
-        if number(numbers, r, m.from) <= 1 {
-            return was;
-        }
         let rest = left(numbers, up, role, goal, r, m.to);
         return lower(numbers, r, m.from, rest + 1, was);
     }
     was
 }
 
-// Staying at a term t for record r: a star's empty round at no cost, a self step at the cost of one.
+// Staying at a term t for record r: a star's empty round at no cost, a self step at the cost of one. It leads to the finish with no less
+// than its cost.
 pub fn rest<'a>(
     up: &'a [u8; RECORDS],
     role: &'a [u8; RECORDS],
@@ -136,6 +137,9 @@ pub fn rest<'a>(
     requires { ⌜ Full (now numbers) × Climbs records (now up) (now role) × (r < records) × (t < terms) × Tests label r × (cost < 2) ⌝ }
     ensures { λ changed. ⌜ Rested (now (up .entry)) (now (role .entry)) (goalOf goal) label cost r t (pairs (now (numbers .entry))) (pairs (now (numbers .exit))) was changed ⌝ }
 {
+    if number(numbers, r, t) <= cost {
+        return was;
+    }
     if allows(numbers, label, r, t) {
         let rest = left(numbers, up, role, goal, r, t);
         return lower(numbers, r, t, rest + cost, was);

@@ -1,13 +1,18 @@
 // Sweeps over the table: row by row, record by record, until one changes nothing.
 use crate::Goal;
-use crate::levels::levels;
+use crate::links::AS_WHOLE;
 use crate::look::look;
 use crate::look::parts_of;
 use crate::look::rest;
+use crate::rows::above;
+use crate::rows::star_quiet;
+use crate::rows::step_quiet;
 use crate::table::lower;
 use crate::table::number;
 use crate::threads::by_middle;
 use crate::threads::first_from;
+use crate::threads::inverse;
+use crate::threads::next_by;
 use crate::threads::next_from;
 use crate::word::word;
 use records::Label;
@@ -19,20 +24,24 @@ use records::rule::record_of;
 ghost use mathlib.Core.Path.{_≡_};
 ghost use Prim.Native.Nat.{ℕ, _*_, _<_};
 ghost use mathlib.Core.List.{List};
-ghost use lib.ListN.{length, replicate};
+ghost use lib.ListN.{replicate};
 ghost use Rattle.meaning.specs.Limits.{terms, records, none};
+ghost use Rattle.records.specs.declared.Record.the-variants.{Star};
 ghost use Rattle.records.specs.Sites.{Accepted};
 ghost use Rattle.fewest.specs.Pairs.{pairs};
 ghost use Rattle.fewest.specs.Frame.{Climbs};
 ghost use Rattle.fewest.specs.Table.{Full};
-ghost use Rattle.fewest.specs.Work.{goalOf, Tests, RowSwept, RestsSwept, AxisSwept, NameSwept, StepSwept, Sits, RecordSwept, Ready, SweptOver, SettledOver};
+ghost use Rattle.fewest.specs.Work.{goalOf, Tests, RowSwept, RestsSwept, AxisSwept, OnlyEnd, ThreadSwept, StepSwept, Sits, RecordSwept, Ready, SweptOver, SettledOver};
 ghost use Rattle.fewest.specs.Threads.{Threads};
 
-// Row r is lowered to row a, place by place.
+// Row r is lowered to row a, place by place, if it is above it anywhere.
 fn sweep_row(numbers: &mut [u8], r: usize, a: usize, was: bool) -> bool
     requires { ⌜ Full (now numbers) × (r < records) × (a < records) ⌝ }
     ensures { λ changed. ⌜ RowSwept a r (pairs (now (numbers .entry))) (pairs (now (numbers .exit))) was changed ⌝ }
 {
+    if !above(numbers, r, a) {
+        return was;
+    }
     let mut changed = was;
     let mut t = 0;
     while t < TERMS {
@@ -96,12 +105,13 @@ pub fn sweep_axis<'a>(
     changed
 }
 
-// Each triple whose middle is the named term, for the step of record r, whose axis takes triples: they are threaded.
-pub fn sweep_name<'a>(
+// Each triple of one thread, for the step of record r, whose axis takes triples. The others are known to offer nothing lower.
+pub fn sweep_thread<'a>(
     site: &[u8],
     scratch: &[u8],
     triples: usize,
-    axis: usize,
+    step: Step,
+    by: usize,
     term: usize,
     up: &'a [u8; RECORDS],
     role: &'a [u8; RECORDS],
@@ -110,22 +120,38 @@ pub fn sweep_name<'a>(
     r: usize,
     was: bool,
 ) -> bool
-    requires { ⌜ Accepted (now site) triples × Full (now numbers) × Climbs records (now up) (now role) × (r < records) × (term < terms) ⌝ }
-    ensures { λ changed. ⌜ NameSwept (now (site .entry)) triples (now (scratch .entry)) axis term (now (up .entry)) (now (role .entry)) (goalOf goal) r (pairs (now (numbers .entry))) (pairs (now (numbers .exit))) was changed ⌝ }
+    requires { ⌜ Accepted (now site) triples × Full (now numbers) × Climbs records (now up) (now role) × (r < records) × Tests (step .label) r × (term < terms) ⌝ }
+    ensures { λ changed. ⌜ ThreadSwept (now (site .entry)) triples (now (scratch .entry)) step by term (now (up .entry)) (now (role .entry)) (goalOf goal) r (pairs (now (numbers .entry))) (pairs (now (numbers .exit))) was changed ⌝ }
 {
+    let axis = step.axis;
+    let label = step.label;
     let parts = parts_of(axis);
-    let by = by_middle(axis);
-    let label = Label::Term(term);
+    let next = next_by(by);
     let mut changed = was;
     let mut k = first_from(scratch, by, term);
     while k < triples {
         changed = look(site, k, parts, label, up, role, goal, numbers, r, changed);
-        k = next_from(site, triples, scratch, by, term, k);
+        k = next_from(site, triples, scratch, next, term, k);
     }
     changed
 }
 
-// The step of record r, whatever its axis: self stays, at its named term or at each vocabulary term.
+// The one term at which the rule is finished, where record r finishes it; no term where there is none or more.
+fn only_end<'a>(role: &'a [u8; RECORDS], goal: Goal, r: usize) -> usize
+    requires { ⌜ r < records ⌝ }
+    ensures { λ v. ⌜ OnlyEnd (now (role .entry)) (goalOf goal) r v ⌝ }
+{
+    if role[r] != AS_WHOLE {
+        return TERMS;
+    }
+    match goal {
+        Goal::End(term) => term,
+        Goal::Anywhere => TERMS,
+    }
+}
+
+// The step of record r, whatever its axis: by the triples with its name, or those that lead to the end where it finishes the rule, or
+// all; self stays, at its named term or at each vocabulary term.
 fn sweep_step<'a>(
     site: &[u8],
     scratch: &[u8],
@@ -144,11 +170,13 @@ fn sweep_step<'a>(
     let label = step.label;
     if step.axis != 0 {
         if let Label::Term(term) = label {
-            return sweep_name(
+            let by = by_middle(step.axis);
+            return sweep_thread(
                 site,
                 scratch,
                 triples,
-                step.axis,
+                step,
+                by,
                 term,
                 up,
                 role,
@@ -158,12 +186,65 @@ fn sweep_step<'a>(
                 was,
             );
         }
+        let end = only_end(role, goal, r);
+        if end < TERMS {
+            let back = inverse(step.axis);
+            return sweep_thread(
+                site,
+                scratch,
+                triples,
+                step,
+                back,
+                end,
+                up,
+                role,
+                goal,
+                numbers,
+                r,
+                was,
+            );
+        }
+        if step_quiet(site, triples, step, up, role, goal, numbers, r) {
+            return was;
+        }
         return sweep_axis(site, triples, step, up, role, goal, numbers, r, was);
     }
     if let Label::Term(term) = label {
         return rest(up, role, goal, numbers, label, 1, r, term, was);
     }
     sweep_rests(scratch, triples, up, role, goal, numbers, label, 1, r, was)
+}
+
+// The star of record r, if it is not seen to be quiet: its round, and passing empty at each vocabulary term.
+fn sweep_star<'a>(
+    scratch: &[u8],
+    triples: usize,
+    up: &'a [u8; RECORDS],
+    role: &'a [u8; RECORDS],
+    goal: Goal,
+    numbers: &mut [u8],
+    r: usize,
+    was: bool,
+) -> bool
+    requires { ⌜ Full (now numbers) × Climbs records (now up) (now role) × (r < records) × (0 < r) ⌝ }
+    ensures { λ changed. ⌜ ((s : List ℕ) → Threads s triples (now (scratch .entry)) → RecordSwept s triples Star 0 (now (up .entry)) (now (role .entry)) (goalOf goal) r (pairs (now (numbers .entry))) (pairs (now (numbers .exit))) was changed) ⌝ }
+{
+    if star_quiet(up, role, goal, numbers, r) {
+        return was;
+    }
+    let one = sweep_row(numbers, r, r - 1, was);
+    sweep_rests(
+        scratch,
+        triples,
+        up,
+        role,
+        goal,
+        numbers,
+        Label::Any,
+        0,
+        r,
+        one,
+    )
 }
 
 // The row of record r, by its record; `first` is the record of a join's first operand.
@@ -201,21 +282,7 @@ fn sweep_record<'a>(
             let one = sweep_row(numbers, r, first, was);
             sweep_row(numbers, r, r - 1, one)
         }
-        Record::Star => {
-            let one = sweep_row(numbers, r, r - 1, was);
-            sweep_rests(
-                scratch,
-                triples,
-                up,
-                role,
-                goal,
-                numbers,
-                Label::Any,
-                0,
-                r,
-                one,
-            )
-        }
+        Record::Star => sweep_star(scratch, triples, up, role, goal, numbers, r, was),
     }
 }
 
@@ -301,51 +368,4 @@ pub fn clear(numbers: &mut [u8])
         numbers[i] = 255;
         i += 1;
     }
-}
-
-// The number table: every entry none, then sweeps until one changes nothing. The byte table is lent as scratch, and has the
-// threads afterwards.
-pub fn fill<'a>(
-    site: &[u8],
-    triples: usize,
-    rule: &[u8],
-    starts: &[u8; RECORDS],
-    count: usize,
-    up: &'a [u8; RECORDS],
-    role: &'a [u8; RECORDS],
-    first: &'a [u8; RECORDS],
-    goal: Goal,
-    scratch: &mut [u8],
-    numbers: &mut [u8],
-)
-    requires { ⌜ Ready (now site) triples (now rule) (now starts) count (now up) (now role) (now first) × Full (now numbers) × (length (now scratch) ≡ records * terms) ⌝ }
-    ensures { λ _. ⌜ SettledOver (now (site .entry)) triples (now (rule .entry)) (now (up .entry)) (now (role .entry)) (now (first .entry)) (goalOf goal) (replicate (records * terms) none) (pairs (now (numbers .exit))) × Threads (now (site .entry)) triples (now (scratch .exit)) ⌝ }
-{
-    clear(numbers);
-    levels(
-        site,
-        triples,
-        rule,
-        starts,
-        count,
-        up,
-        role,
-        first,
-        goal,
-        scratch,
-        numbers,
-    );
-    settle(
-        site,
-        scratch,
-        triples,
-        rule,
-        starts,
-        count,
-        up,
-        role,
-        first,
-        goal,
-        numbers,
-    )
 }

@@ -1,11 +1,9 @@
 // Entries of the lent table by record and term: the only functions that know how a place is counted.
 use crate::pairs::get;
 use crate::pairs::put;
-use records::RECORDS;
 use records::TERMS;
 ghost use mathlib.Core.Path.{_≡_};
 ghost use Prim.Native.Nat.{_+_, _*_, _<_, _≤_};
-ghost use lib.ListN.{length};
 ghost use Rattle.meaning.specs.Limits.{terms, records, none};
 ghost use Rattle.fewest.specs.Pairs.{pairs};
 ghost use Rattle.fewest.specs.Offer.{place, view};

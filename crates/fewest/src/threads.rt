@@ -18,7 +18,7 @@ ghost use Rattle.records.specs.Sites.{Accepted};
 ghost use Rattle.records.specs.Rules.{lastAxis, axisNumbered};
 ghost use Rattle.fewest.specs.Cells.{values, cells};
 ghost use Rattle.fewest.specs.Work.{Has};
-ghost use Rattle.fewest.specs.Threads.{Blank, Headed, ThreadedOne, Threads, ThreadFirst, ThreadNext, SubjectNext, AtMiddle};
+ghost use Rattle.fewest.specs.Threads.{object-next, Blank, Headed, ThreadedOne, Threads, ThreadFirst, nextsOf, ThreadNext, SubjectNext, AtMiddle, AtFinish};
 
 // Where the first triples and the next ones stand; what is behind them is free.
 const FIRST_SUBJECT: usize = 0;
@@ -100,7 +100,9 @@ pub fn first_to(scratch: &[u8], axis: usize, t: usize) -> usize {
 }
 
 // An axis and its inverse lead the same triples from and to the other's ends.
-pub fn inverse(axis: usize) -> usize {
+pub fn inverse(axis: usize) -> usize
+    ensures { λ by. ⌜ (axis ≢ 0 → axis ≤ lastAxis → AtFinish (axisNumbered axis) by) ⌝ }
+{
     match axis {
         1 => 2,
         2 => 1,
@@ -111,31 +113,35 @@ pub fn inverse(axis: usize) -> usize {
     }
 }
 
-// The next triple after k by which the axis leads from t; as many as there are triples where there is none.
+// Where the next triples of an axis's threads stand, of those that lead from a term; 0 where the site's order tells.
+pub fn next_by(axis: usize) -> usize
+    ensures { λ by. ⌜ (by ≡ nextsOf axis) × (by ≤ object-next) ⌝ }
+{
+    match axis {
+        1 => 0,
+        3 => 0,
+        2 => NEXT_OBJECT,
+        6 => NEXT_OBJECT,
+        _ => NEXT_PREDICATE,
+    }
+}
+
+// The next triple after k that leads from t, by where the next ones stand; as many as there are triples where there is none.
 pub fn next_from(
     site: &[u8],
     triples: usize,
     scratch: &[u8],
-    axis: usize,
+    by: usize,
     t: usize,
     k: usize,
 ) -> usize
-    requires { ⌜ Accepted (now site) triples × (k < triples) ⌝ }
-    ensures { λ j. ⌜ ThreadNext (now (site .entry)) triples (now (scratch .entry)) axis t k j ⌝ }
+    requires { ⌜ Accepted (now site) triples × (k < triples) × (by ≤ object-next) ⌝ }
+    ensures { λ j. ⌜ ThreadNext (now (site .entry)) triples (now (scratch .entry)) by t k j ⌝ }
 {
-    if axis == 1 {
+    if by == 0 {
         return same_subject(site, triples, t, k);
     }
-    if axis == 3 {
-        return same_subject(site, triples, t, k);
-    }
-    if axis == 2 {
-        return later(triples, cell(scratch, NEXT_OBJECT + k), k);
-    }
-    if axis == 6 {
-        return later(triples, cell(scratch, NEXT_OBJECT + k), k);
-    }
-    later(triples, cell(scratch, NEXT_PREDICATE + k), k)
+    later(triples, cell(scratch, by + k), k)
 }
 
 // A thread goes up: a next triple that does not stand later ends it.

@@ -8,6 +8,7 @@ use fewest::look::allows;
 use fewest::look::move_at;
 use fewest::look::parts_of;
 use fewest::threads::first_from;
+use fewest::threads::next_by;
 use fewest::threads::next_from;
 use records::Label;
 use records::NONE;
@@ -116,6 +117,7 @@ fn by_thread<'a>(
     ensures { λ p. ⌜ SmallestBy (frame (siteOf (now (site .entry)) triples) (now (up .entry)) (now (role .entry)) (goalOf goal)) (pairs (now (numbers .entry))) (axisNumbered axis) label t d r p ⌝ }
 {
     let parts = parts_of(axis);
+    let by = next_by(axis);
     let mut k = first_from(scratch, axis, t);
     while k < triples {
         let m = move_at(site, k, parts);
@@ -123,7 +125,7 @@ fn by_thread<'a>(
         if suits(up, role, goal, numbers, label, r, m, t, d) {
             return Pick::Step(Taken { by: r, over: k, to });
         }
-        k = next_from(site, triples, scratch, axis, t, k);
+        k = next_from(site, triples, scratch, by, t, k);
     }
     Pick::Nothing
 }

@@ -1,49 +1,65 @@
--- `asked::chase::clear_waiting` meets its contract: only cells behind the threads are stored.
--- The measure is what is left of the terms.
-use Prim.Native.Nat.{_≤_, _-_}
-use mathlib.Core.Path.{ap}
+-- `asked::chase::clear_waiting` meets its contract: only bytes behind the threads are stored, and their two low bits stay.
+-- The measure is what is left of the bytes.
+use Prim.Native.Nat.{_+_, _-_, _≤_}
+use mathlib.Core.Path.{_≡_, refl}
 use native.Mathlib.Omega.{arith}
-use lib.ListN.{length}
+use borrow.Author.Needs.{needs}
+use lib.ListN.{length, length-set}
 use Rattle.meaning.specs.Limits.{terms, triples}
+use Rattle.fewest.specs.Threads.{free}
 use Rattle.asked.specs.Serve.{Aside}
-use Rattle.asked.proofs.LowBits.{same-long}
-use Rattle.asked.proofs.Serving.{aside-none, aside-then, put-aside}
+use Rattle.asked.proofs.Serving.{aside-none, aside-then, cut-aside}
 use Rattle.asked.proofs.chase.clear_waiting.Statement.{statement}
 use Rattle.asked.proofs.chase.clear_waiting.Tie as tie
 
 abbrev Inv-loop : tie.InvT-loop
-Inv-loop asked₀ t₀ asked t = (t ≤ terms) × Aside asked₀ asked
+Inv-loop asked₀ end i₀ asked i = (free + free ≤ i) × (length asked ≡ length asked₀) × Aside asked₀ asked
 
 abbrev μ-loop : tie.MeasureT-loop
-μ-loop asked₀ t₀ asked t = terms - t
+μ-loop asked₀ end i₀ asked i = end - i
+
+add-end : tie.Need-add-end Inv-loop μ-loop
+add-end c = search needs
+
+add-end-2 : tie.Need-add-end-2 Inv-loop μ-loop
+add-end-2 c = search needs
+
+add-end-3 : tie.Need-add-end-3 Inv-loop μ-loop
+add-end-3 c = search needs
+
+returns : tie.Need-returns Inv-loop μ-loop
+returns c = aside-none _
+
+add-i : tie.Need-add-i Inv-loop μ-loop
+add-i c = search needs
 
 loop-holds : tie.Need-loop-holds Inv-loop μ-loop
-loop-holds c = (omega arith, aside-none _)
+unfolding terms triples
+loop-holds c = (omega arith, refl, aside-none _)
 
-add-put-cell : tie.Need-add-put-cell Inv-loop μ-loop
-unfolding terms
-add-put-cell c = omega arith
+slice-read-asked : tie.Need-slice-read-asked Inv-loop μ-loop
+slice-read-asked c = omega arith
 
-put-cell-requires : tie.Need-put-cell-requires Inv-loop μ-loop
-put-cell-requires c κs = tt
+slice-write-asked : tie.Need-slice-write-asked Inv-loop μ-loop
+slice-write-asked c = omega arith
 
-add-t : tie.Need-add-t Inv-loop μ-loop
-unfolding terms
-add-t c = omega arith
+add-i-2 : tie.Need-add-i-2 Inv-loop μ-loop
+add-i-2 c = omega arith
 
 loop-less : tie.Need-loop-less Inv-loop μ-loop
-unfolding terms
 loop-less c = omega arith
 
 loop-again : tie.Need-loop-again Inv-loop μ-loop
-unfolding terms triples
-loop-again c = (omega arith, aside-then (c .before .before .before .before .before .loop .inv .1) (put-aside (c .before .before .put-cell .ensures) (omega arith)))
+loop-again c =
+    let at = c .before .before .loop in
+    let (behind, long, aside) = at .inv in
+    (omega arith, simp length-set (omega arith), aside-then aside (cut-aside (at .asked) (at .i) behind))
 
 same-length : tie.Need-same-length Inv-loop μ-loop
-same-length c = same-long _ _ (ap length (c .before .loop .inv .1 .same))
+same-length c = c .before .loop .inv .1
 
-returns : tie.Need-returns Inv-loop μ-loop
-returns c = c .before .loop .inv .1
+returns-2 : tie.Need-returns-2 Inv-loop μ-loop
+returns-2 c = c .before .loop .inv .2
 
 pub clear-waiting-spec : {M : Type 1} → statement M
 clear-waiting-spec =
@@ -51,11 +67,16 @@ clear-waiting-spec =
     (tie.spec
     Inv-loop
     μ-loop
+    add-end
+    add-end-2
+    add-end-3
+    returns
+    add-i
     loop-holds
-    add-put-cell
-    put-cell-requires
-    add-t
+    slice-read-asked
+    slice-write-asked
+    add-i-2
     loop-less
     loop-again
     same-length
-    returns)
+    returns-2)

@@ -1,9 +1,9 @@
 -- `fewest::sweep::sweep_record` meets its contract: the works of each kind of record, in their order.
-use mathlib.Core.Path.{refl, _∙_}
+use mathlib.Core.Path.{_∙_}
 use native.Mathlib.Omega.{arith}
 use borrow.Author.Needs.{needs}
 use Rattle.fewest.specs.Table.{Full}
-use Rattle.fewest.proofs.ByRecords.{by-step, by-sequence, by-choice, by-star}
+use Rattle.fewest.proofs.ByRecords.{by-step, by-sequence, by-choice}
 use Rattle.fewest.proofs.Sweeps.{lowers-chain}
 use Rattle.fewest.proofs.sweep.sweep_record.Statement.{statement}
 use Rattle.fewest.proofs.sweep.sweep_record.Tie as tie
@@ -41,17 +41,10 @@ sweep-row-requires-3 c κs =
 enum-told-3 : tie.Need-enum-told-3
 enum-told-3 c = search needs
 
-sub-sweep-row-2 : tie.Need-sub-sweep-row-2
-sub-sweep-row-2 c = rw (c .before .enum-told3 .given .1) at (c .before .before .before .before .before .before .pre .4)
-
-sweep-row-requires-4 : tie.Need-sweep-row-requires-4
-sweep-row-requires-4 c κs = search needs
-
-sweep-rests-requires : tie.Need-sweep-rests-requires
-unfolding Full
-sweep-rests-requires c κs =
-    let pre = c .before .before .before .before .before .before .before .before .before .before .pre in
-    (c .before .before .before .sweep-row4 .kept .0 ∙ pre .1, pre .2, pre .3, tt, omega arith)
+sweep-star-requires : tie.Need-sweep-star-requires
+sweep-star-requires c κs =
+    let pre = c .before .before .before .before .before .before .pre in
+    (pre .1, pre .2, pre .3, rw (c .before .enum-told3 .given .1) at (pre .4))
 
 same-length : tie.Need-same-length
 same-length c = search needs
@@ -80,8 +73,8 @@ same-length-4 c = search needs
 
 returns-4 : tie.Need-returns-4
 returns-4 c =
-    by-star (λ w. lowers-chain) _ _ (c .before .before .before .before .before .before .before .before .enum-told3 .given .1)
-    (c .before .before .before .before .before .before .sweep-row4 .ensures _) (c .before .before .sweep-rests .ensures _ (c .before .before .before .before .before .before .before .before .before .before .before .before .before .pre .6) tt (λ e. refl))
+    rw (c .before .before .before .before .enum-told3 .given .1)
+    (c .before .before .sweep-star .ensures _ (c .before .before .before .before .before .before .before .before .before .pre .6))
 
 pub sweep-record-spec : {M : Type 1} → statement M
 sweep-record-spec =
@@ -96,9 +89,7 @@ sweep-record-spec =
     sub-sweep-row
     sweep-row-requires-3
     enum-told-3
-    sub-sweep-row-2
-    sweep-row-requires-4
-    sweep-rests-requires
+    sweep-star-requires
     same-length
     returns
     same-length-2

@@ -1,9 +1,11 @@
--- `fewest::sweep::sweep_row` meets its contract: each turn sees one place of the row.
+-- `fewest::sweep::sweep_row` meets its contract: the row is nowhere above the other, or each turn sees one place of it.
 -- The measure is what is left of the row.
 use Prim.Native.Nat.{_≤_, _-_}
 use mathlib.Core.Path.{_≡_, _∙_}
 use native.Mathlib.Omega.{arith}
 use lib.ListN.{length}
+use borrow.Author.Needs.{needs}
+use borrow.Author.Tests.{not-true}
 use Rattle.meaning.specs.Limits.{terms}
 use Rattle.fewest.specs.Pairs.{pairs}
 use Rattle.fewest.specs.Frame.{Frame}
@@ -11,9 +13,9 @@ use Rattle.fewest.specs.Offer.{copying, Lowers}
 use Rattle.fewest.specs.Sweep.{sum}
 use Rattle.fewest.specs.Table.{Full}
 use Rattle.fewest.specs.Work.{QuietAt}
-use Rattle.fewest.proofs.Sweeps.{lowers-chain}
+use Rattle.fewest.proofs.Sweeps.{lowers-chain, swept-none}
 use Rattle.fewest.proofs.Loops.{Seen, seen-none, seen-more}
-use Rattle.fewest.proofs.Rowwise.{row-looked, row-swept}
+use Rattle.fewest.proofs.Rowwise.{copied, row-looked, row-swept}
 use Rattle.fewest.proofs.sweep.sweep_row.Statement.{statement}
 use Rattle.fewest.proofs.sweep.sweep_row.Tie as tie
 
@@ -24,6 +26,15 @@ Inv-loop numbers₀ r a was changed₀ t₀ numbers changed t =
 
 abbrev μ-loop : tie.MeasureT-loop
 μ-loop numbers₀ r a was changed₀ t₀ numbers changed t = terms - t
+
+above-requires : tie.Need-above-requires Inv-loop μ-loop
+above-requires c κs = search needs
+
+same-length : tie.Need-same-length Inv-loop μ-loop
+same-length c = search needs
+
+returns : tie.Need-returns Inv-loop μ-loop
+returns c = λ F. swept-none lowers-chain (λ t v h o. copied o (c .before .above .ensures (not-true _ (c .if1 .taken)) t h))
 
 loop-holds : tie.Need-loop-holds Inv-loop μ-loop
 loop-holds c = (omega arith, omega arith, λ F. seen-none lowers-chain)
@@ -54,12 +65,12 @@ loop-again c =
           (row-looked (turn .loop-test .taken) (c .before .before .before .before .number .ensures .0) (c .before .before .lower .ensures)),
     )
 
-same-length : tie.Need-same-length Inv-loop μ-loop
-same-length c = omega arith
+same-length-2 : tie.Need-same-length-2 Inv-loop μ-loop
+same-length-2 c = omega arith
 
-returns : tie.Need-returns Inv-loop μ-loop
+returns-2 : tie.Need-returns-2 Inv-loop μ-loop
 unfolding terms
-returns c = λ F. row-swept (c .loop-test .left) (c .before .loop .inv .2 F)
+returns-2 c = λ F. row-swept (c .loop-test .left) (c .before .loop .inv .2 F)
 
 pub sweep-row-spec : {M : Type 1} → statement M
 sweep-row-spec =
@@ -67,11 +78,14 @@ sweep-row-spec =
     (tie.spec
     Inv-loop
     μ-loop
+    above-requires
+    same-length
+    returns
     loop-holds
     number-requires
     lower-requires
     add-t
     loop-less
     loop-again
-    same-length
-    returns)
+    same-length-2
+    returns-2)

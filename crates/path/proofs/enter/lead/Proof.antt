@@ -1,5 +1,4 @@
 -- `path::enter::lead` meets its contract: a record that is shut opens nothing, one that is open what its kind leads to.
-use borrow.Author.Needs.{needs}
 use native.Mathlib.Omega.{arith}
 use mathlib.Core.Path.{ap, _∙_}
 use Rattle.records.specs.Rules.{recOf}

@@ -1,0 +1,2 @@
+-- What the levels promise.
+pub mod Levelled
