@@ -1,6 +1,6 @@
 -- A step at t is looked at by its moves from t, and staying by t itself. Where every move from t was seen, the question at t asks
 -- for nothing unmarked. A copy asks for the operand, and is never done itself.
-use Prim.Native.Nat.{ℕ, _<_}
+use Prim.Native.Nat.{ℕ, _<_, _^_}
 use mathlib.Core.Path.{_≡_, refl, _∙_}
 use mathlib.Core.Bool.{Bool, true, false}
 use mathlib.Core.Logic.{_≢_}
@@ -21,10 +21,11 @@ use Rattle.fewest.specs.Work.{workOf, Nameless}
 use Rattle.fewest.proofs.ByTriples.{Takes, by-triple}
 use Rattle.fewest.proofs.Tells.{told, told-not}
 use Rattle.asked.specs.Mark.{Marks, marks, Marked, Leads, by-step, by-test, by-rest, Wants, follows, tests, enters, asking, Marking, stay, CalmAt}
-use Rattle.asked.specs.Seek.{Whole, Bits, OneMarked, AllNext, CalmBy, Goes, along, in-place, Pursued}
+use Rattle.asked.specs.Serve.{markeds, SetMarked}
+use Rattle.asked.specs.Seek.{AllNext, CalmBy, Goes, along, in-place, Pursued}
 use Rattle.asked.specs.Chase.{WorkAsked, Stay, as-empty, as-step, StayAsked}
 use Rattle.asked.proofs.Marking.{never-leads}
-use Rattle.asked.proofs.OneMark.{one-asked}
+use Rattle.asked.proofs.OneMark.{only-asked}
 
 -- the label of the moves that a step with this label takes: a test lets each be tried
 abbrev tried : Label → move.Label
@@ -116,12 +117,12 @@ module _ {F : Frame} {T : List ℕ} {n r t : ℕ} {M : Marks} where
       away k i u (staying x) = absurd (other (x .rests))
 
 -- The operand was marked where its parent is.
-pub copy-asked : {F : Frame} {T : List ℕ} {a r t : ℕ} {b b′ ends : List ℕ} → Whole b → Bits b → a < records → t < terms →
-    Marked (marks b ends) r t → OneMarked a t b b′ → WorkAsked F T (copying a) r t (marks b ends) (marks b′ ends)
-copy-asked {F} {T} {a} {r} {t} {b′ = b′} {ends} long bits h k m one =
-    let (made, marked) = one-asked bits one long h k (asking m k (enters refl refl)) in
+pub copy-asked : {F : Frame} {T : List ℕ} {a r t : ℕ} {b b′ ends : List ℕ} → a < records → t < terms →
+    Marked (marks (markeds b) ends) r t → SetMarked (2 ^ a) t b b′ → WorkAsked F T (copying a) r t (marks (markeds b) ends) (marks (markeds b′) ends)
+copy-asked {F} {T} {a} {r} {t} {b′ = b′} {ends} h k m one =
+    let (made, marked) = only-asked one h k (asking m k (enters refl refl)) in
     (made, record { asks = λ q v l p. asks marked p; arrives = λ u l d o. absurd (never-leads d) })
   where
-    asks : {q v : ℕ} → Marked (marks b′ ends) a t → Wants F T r t q v (copying a) → Marked (marks b′ ends) q v
+    asks : {q v : ℕ} → Marked (marks (markeds b′) ends) a t → Wants F T r t q v (copying a) → Marked (marks (markeds b′) ends) q v
     asks marked (follows d n) = absurd (never-leads d)
     asks marked (enters e same) = rw (e, same) marked

@@ -5,7 +5,7 @@ use mathlib.Core.Path.{_≡_, refl, sym, subst, _∙_}
 use mathlib.Core.Bool.{true}
 use mathlib.Core.Logic.{⊎-elim}
 use mathlib.Core.List.{List, [], _∷_, List·Memᴰ, List·Memᴰ·head, List·Memᴰ·tail, List·Memᴰ·eq-of-singleton, List·Memᴰ·cases-cons}
-use native.Mathlib.Omega.{arith}
+use native.Mathlib.Nat.{le-refl, le-trans}
 use lib.Arith.{digits-lt}
 use lib.ListN.{length, getD, set}
 use Rattle.meaning.specs.Limits.{terms, records}
@@ -18,18 +18,15 @@ use Rattle.records.specs.declared.Record.{Record}
 use Rattle.records.specs.declared.Record.the-variants as kind
 use Rattle.records.specs.Rules.{axisNumbered, labelled, recOf, recordsOf}
 use Rattle.fewest.specs.Frame.{Frame}
-use Rattle.fewest.specs.Lows.{lows}
 use Rattle.fewest.specs.Offer.{place, view, Work, copying, resting, worksOf}
 use Rattle.fewest.specs.Work.{workOf, Rows, idle, worked}
 use Rattle.fewest.proofs.ByRecords.{rows-within}
-use Rattle.fewest.proofs.Lows.{length-lows}
 use Rattle.fewest.proofs.Places.{one-place, place-below, stored}
 use Rattle.asked.specs.Mark.{Marks, marks, Marking, CalmAt, Marks-on, rest, work, Marked-out}
-use Rattle.asked.specs.Serve.{NoneWaits, serveds, Kept, Aside, OneServed, TakenUp}
-use Rattle.asked.specs.Seek.{Whole}
+use Rattle.asked.specs.Serve.{markeds, NoneWaits, serveds, Kept, OneServed, TakenUp}
 use Rattle.asked.specs.Chase.{WorkAsked, RecordAsked, Answered, Chased}
 use Rattle.asked.proofs.Marking.{Grows, calm-at-grows, marking-grows, marks-on-then, marks-on-grows}
-use Rattle.asked.proofs.Serving.{length-serveds, served-or-waits}
+use Rattle.asked.proofs.Serving.{length-serveds, served-or-waits, one-fewer}
 
 -- each of these works of record r was asked on at t
 abbrev Works : Frame → List ℕ → ℕ → ℕ → List Work → Marks → Marks → Type 0
@@ -76,8 +73,8 @@ module _ {F : Frame} {T : List ℕ} {rs : List Rec} {first : List ℕ} where
 
   -- A question that was taken up and asked on is answered, and the others are as they were.
   pub one-answered : {b d ends ends′ : List ℕ} {r t : ℕ} → t < terms → place r t < length (serveds b) →
-      serveds d ≡ set (serveds b) (place r t) 1 → Grows (marks (lows b) ends) (marks (lows d) ends′) →
-      ((w : Work) → List·Memᴰ w (worksOf (getD rs r starring) r (getD first r 0)) → CalmAt F T w r t (marks (lows d) ends′)) →
+      serveds d ≡ set (serveds b) (place r t) 1 → Grows (marks (markeds b) ends) (marks (markeds d) ends′) →
+      ((w : Work) → List·Memᴰ w (worksOf (getD rs r starring) r (getD first r 0)) → CalmAt F T w r t (marks (markeds d) ends′)) →
       Answered F T rs first b ends → Answered F T rs first d ends′
   unfolding view
   one-answered {b} {r = r} {t} small inside served grows here before = record {
@@ -89,7 +86,7 @@ module _ {F : Frame} {T : List ℕ} {rs : List Rec} {first : List ℕ} where
 
   -- Where none waits, nothing asked for is unmarked.
   pub answered-out : {b ends : List ℕ} → Answered F T rs first b ends → NoneWaits b (length rs * terms) →
-      Marked-out F T rs first (marks (lows b) ends)
+      Marked-out F T rs first (marks (markeds b) ends)
   unfolding view
   answered-out {b} answered none = record {
     calm = λ r w h i t k m. ⊎-elim (λ s. answered .each r t h k s w i) (λ waits. absurd (none (place r t) (digits-lt h k) waits))
@@ -98,33 +95,33 @@ module _ {F : Frame} {T : List ℕ} {rs : List Rec} {first : List ℕ} where
 
 module _ {site : List ℕ} {n : ℕ} {rule up role first T : List ℕ} where
   -- The question of record r at t was taken up and asked on.
-  pub one-chased : {b c d ends ends′ : List ℕ} (x : Record) {r t : ℕ} → Whole (lows b) → r < records → t < terms → r < length (recordsOf rule) →
+  pub one-chased : {b c d ends ends′ : List ℕ} (x : Record) {r t : ℕ} → r < records → t < terms → r < length (recordsOf rule) →
       recOf x ≡ getD (recordsOf rule) r starring → TakenUp r t b c true →
-      RecordAsked site n x (getD first r 0) up role T r t (marks (lows c) ends) (marks (lows d) ends′) → Kept c d →
+      RecordAsked site n x (getD first r 0) up role T r t (marks (markeds c) ends) (marks (markeds d) ends′) → Kept c d →
       Chased site n rule up role first T b ends d ends′ × OneServed r t b d
-  unfolding Whole
-  one-chased {b} x {r} {t} long row small below is taken asked kept = (
-    record {
-      reached = λ g. record-reached below is (rw (taken .same) at (asked g .0));
-      answered = λ g. one-answered small (omega (arith, length-lows b, length-serveds b, place-below row small))
-          (kept .served ∙ taken .served .waited (taken .waited refl)) (marks-on-grows {rs = recordsOf rule} {first = first} (record-reached below is (rw (taken .same) at (asked g .0)))) (λ w i. asked g .1 w (rw is i));
-      below = λ i h. kept .below i h ∙ taken .below i h;
-    },
-    record { waited = λ w. kept .served ∙ taken .served .waited w; left = λ w. kept .served ∙ taken .served .left w },
-  )
+  one-chased {b} x {r} {t} row small below is taken asked kept =
+      let one : OneServed r t b _ = record { waited = λ w. kept .served ∙ taken .served .waited w; left = λ w. kept .served ∙ taken .served .left w } in (
+        record {
+          reached = λ g. record-reached below is (rw (taken .same) at (asked g .0));
+          answered = λ g. one-answered small (rw (length-serveds b) (place-below row small))
+              (kept .served ∙ taken .served .waited (taken .waited refl)) (marks-on-grows {rs = recordsOf rule} {first = first} (record-reached below is (rw (taken .same) at (asked g .0)))) (λ w i. asked g .1 w (rw is i));
+          long = kept .long ∙ taken .long;
+          fewer = one-fewer one (place-below row small);
+          below = λ i h. kept .below i h ∙ taken .below i h;
+        },
+        one,
+      )
 
-  -- Scratch aside changes nothing.
-  pub chased-aside : {b d ends : List ℕ} → Aside b d → Chased site n rule up role first T b ends d ends
-  chased-aside aside = record {
-    reached = λ g. rw (aside .same) rest;
-    answered = λ g before. record { each = λ r t h k s. rw (aside .same) (before .each r t h k (rw (aside .kept .served) at s)) };
-    below = aside .kept .below;
-  }
+  -- Nothing done, and one thing after another.
+  pub chased-none : {b ends : List ℕ} → Chased site n rule up role first T b ends b ends
+  chased-none = record { reached = λ g. rest; answered = λ g before. before; long = refl; fewer = le-refl _; below = λ i h. refl }
 
   pub chased-then : {b c d ends more most : List ℕ} → Chased site n rule up role first T b ends c more →
       Chased site n rule up role first T c more d most → Chased site n rule up role first T b ends d most
   chased-then p q = record {
     reached = λ g. marks-on-then (p .reached g) (q .reached g);
     answered = λ g before. q .answered g (p .answered g before);
+    long = q .long ∙ p .long;
+    fewer = le-trans (q .fewer) (p .fewer);
     below = λ i h. q .below i h ∙ p .below i h;
   }

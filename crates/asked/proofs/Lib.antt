@@ -1,10 +1,11 @@
--- Laws that belong to no one function: marking, which questions are served, and the bridge from marks to questions and ends.
+-- Laws that belong to no one function: the bits of words, marking, which questions are served, and the bridge from marks to questions
+-- and ends.
+pub mod WordBits
+pub mod ByteBits
 pub mod Marking
 pub mod Clearing
-pub mod LowBits
 pub mod Serving
 pub mod OneMark
-pub mod Fit
 pub mod ByMoves
 pub mod Going
 pub mod Chasing
@@ -15,3 +16,6 @@ pub mod Fair
 pub mod Sums
 pub mod Beginning
 pub mod Bridge
+pub mod Waiting
+pub mod Inside
+pub mod Narrowing

@@ -14,7 +14,7 @@ use Rattle.fewest.specs.Frame.{Frame}
 use Rattle.fewest.specs.Offer.{place, view, Work, copying}
 use Rattle.fewest.proofs.Places.{stored}
 use Rattle.fewest.proofs.Bound.{total-set}
-use Rattle.asked.specs.Mark.{Marks, Marked, blank, Leads, Done, done, Marking, stay, mark, arrive, CalmAt, Marks-on, rest, work}
+use Rattle.asked.specs.Mark.{Marks, Marked, blank, Leads, Done, done, Asking, asking, Marking, stay, mark, arrive, CalmAt, Marks-on, rest, work}
 use Rattle.asked.specs.Seek.{Bits, AllNext, CalmBy}
 
 -- a mark where none was takes one from the blank entries
@@ -58,6 +58,9 @@ module _ {F : Frame} {T : List ℕ} {M N : Marks} {r : ℕ} (grows : Grows M N) 
   -- What is done by marks is done by more marks: one term may have several things to mark.
   pub done-grows : {u : ℕ} {w : Work} → Done F T M r u w → Done F T N r u w
   done-grows (done m b l) = done (grows .marked r _ m) b l
+
+  pub asking-grows : {b v : ℕ} {w : Work} → Asking F T M r b v w → Asking F T N r b v w
+  asking-grows (asking m h l) = asking (grows .marked r _ m) h l
 
   -- What asks for nothing unmarked stays so.
   pub calm-by-grows : {l : Label} {i u : ℕ} → CalmBy F T l r i u M → CalmBy F T l r i u N
@@ -110,6 +113,11 @@ module _ {F : Frame} {T : List ℕ} {rs : List Rec} {first : List ℕ} where
       let (long, ends) = marking-long l in
       let (before, lent) = marks-on-long q in
       (long ∙ before, ends ∙ lent)
+
+  -- The ends stay a table of bits.
+  pub marks-on-bits : {M N : Marks} → Marks-on F T rs first M N → Bits (M .ends) → Bits (N .ends)
+  marks-on-bits rest e = e
+  marks-on-bits (work q h i l) e = marking-bits l (marks-on-bits q e)
 
   -- Marks only grow.
   pub marks-on-grows : {M N : Marks} → Marks-on F T rs first M N → Grows M N

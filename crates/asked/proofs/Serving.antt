@@ -1,224 +1,252 @@
--- The two low bits of a byte: what a store of each kind leaves of them and of the cells. A mark serves no question, to take one up
--- serves it, and scratch behind the threads touches neither.
-use Prim.Native.Nat.{ℕ, zero, suc, _+_, _*_, _/_, _%_, _-_, _<_, _≤_}
+-- Which questions are marked, wait and are served, by the bits of the words: what a store of each kind leaves of them. A mark serves
+-- no question, to take one up serves it, and a byte that is queued touches neither.
+use Prim.Native.Nat.{ℕ, _+_, _*_, _-_, _^_, _<_, _≤_}
 use mathlib.Core.Path.{_≡_, refl, sym, ap, _∙_}
-use mathlib.Core.Bool.{true, false}
+use mathlib.Core.Bool.{true, false, true≢false, false≢true}
 use mathlib.Core.Logic.{_≢_, _⊎_, inl, inr, ⊎-elim}
-use mathlib.Core.List.{List, [], _∷_, map}
+use mathlib.Core.List.{List}
 use native.Mathlib.Nat.{le-refl}
 use native.Mathlib.Omega.{arith}
 use native.Mathlib.Decide.{ℕ-discrete, decLt}
-use lib.ListN.{length, getD, set, List·getD-map, length-set}
-use lib.Seq.{getD-set-other, set-out}
-use borrow.Author.Tests.{eq-eqb, ne-eqb}
-use Rattle.meaning.specs.Limits.{terms}
-use Rattle.fewest.specs.Cells.{lowest, cells, lowests, CellPut}
-use Rattle.fewest.specs.Kept.{Below}
-use Rattle.fewest.specs.Lows.{low, lows}
-use Rattle.fewest.specs.Offer.{place}
+use lib.Bits.{bitAnd, bitOr, bitXor}
+use lib.ListN.{length, getD, set, length-set, List·getD-eq-default}
+use lib.Seq.{getD-set-other}
+use Rattle.meaning.specs.Limits.{terms, records}
+use Rattle.fewest.specs.Offer.{place, view}
 use Rattle.fewest.specs.Threads.{free}
-use Rattle.fewest.proofs.Decoded.{cells-same}
-use Rattle.fewest.proofs.Keeping.{kept-byte}
-use Rattle.fewest.proofs.Lows.{getD-lows, map-set-keep, lows-set-keep}
-use Rattle.fewest.proofs.Places.{stored, one-place}
+use Rattle.fewest.proofs.Keeping.{kept-bytes, kept-byte}
+use Rattle.fewest.proofs.Places.{place-below, view-set-same, view-set-other}
+use Rattle.asked.specs.Words.{size, bit, word, WordPut, marks-at, waits-at, questions}
 use Rattle.asked.specs.Mark.{blank}
-use Rattle.asked.specs.Serve.{Waits, serving, serveds, Kept, Aside, OneServed, SomeServed, TakenUp, most, Picked}
+use Rattle.asked.specs.Serve.{markeds, waitings, Waits, serveds, Fewer, Kept, Aside, Renewed, SetMarked, OneServed, TakenUp, most, Picked}
+use Rattle.asked.specs.Seek.{Bits}
 use Rattle.asked.proofs.Marking.{blank-mark}
+use Rattle.asked.proofs.WordBits.{length-listed, getD-listed, same-views, length-questions, view-questions, same-word, word-others, bit-or, bit-and, bit-xor, bit-own, bit-other, has-one, has-none, questions-bits}
 
--- which bytes are served
-module _ (x : ℕ) where
-  serves : x % lowest ≡ 1 → serving x ≡ 1
-  serves e = rw (eq-eqb (x % lowest) 1 e)
+-- the word of term t
+abbrev pub mark-of : List ℕ → ℕ → ℕ
+mark-of b t = word b (marks-at + size * t)
 
-  serves-not : x % lowest ≢ 1 → serving x ≡ 0
-  serves-not e = rw (ne-eqb (x % lowest) 1 e)
+abbrev pub wait-of : List ℕ → ℕ → ℕ
+wait-of b t = word b (waits-at + size * t)
 
-pub length-serveds : (b : List ℕ) → length (serveds b) ≡ length b
-unfolding serveds
-length-serveds [] = refl
-length-serveds (x ∷ b) = ap suc (length-serveds b)
+-- Words that are as they were hold the questions that they held.
+pub same-questions : (at : ℕ) (b d : List ℕ) → ((t : ℕ) → t < terms → word d (at + size * t) ≡ word b (at + size * t)) → questions at d ≡ questions at b
+same-questions at b d same = same-views (questions at d) (questions at b) (length-questions at d) (length-questions at b)
+    λ r t h k. view-questions at d r t h k ∙ ap (λ w. bit w r) (same t k) ∙ sym (view-questions at b r t h k)
 
-getD-serveds : (b : List ℕ) (i : ℕ) → getD (serveds b) i 0 ≡ serving (getD b i 0)
-unfolding serveds
-getD-serveds b i = List·getD-map serving b i 0
+module _ (b : List ℕ) where
+  pub length-serveds : length (serveds b) ≡ records * terms
+  unfolding serveds
+  length-serveds = length-listed _ (records * terms)
 
-serveds-set : (b : List ℕ) (i v : ℕ) → serveds (set b i v) ≡ set (serveds b) i (serving v)
-unfolding serveds
-serveds-set [] i v = refl
-serveds-set (x ∷ b) zero v = refl
-serveds-set (x ∷ b) (suc i) v = ap (λ (l : List ℕ). serving x ∷ l) (serveds-set b i v)
+  getD-serveds : (i : ℕ) → i < records * terms → getD (serveds b) i 0 ≡ getD (markeds b) i 0 - getD (waitings b) i 0
+  unfolding serveds
+  getD-serveds i h = getD-listed (λ i. getD (markeds b) i 0 - getD (waitings b) i 0) (records * terms) i h
 
--- What waits is marked and not served; what is marked waits or is served.
-module _ (b : List ℕ) (i : ℕ) where
-  pub waits-marked : Waits b i → getD (lows b) i 0 ≡ 1
-  unfolding Waits
-  waits-marked e = omega (arith, getD-lows b i)
+  -- which are served, by the bits
+  difference : (r t : ℕ) → r < records → t < terms → view (serveds b) r t ≡ view (markeds b) r t - view (waitings b) r t
+  unfolding view
+  difference r t h k = getD-serveds (place r t) (place-below h k)
 
-  waits-unserved : Waits b i → getD (serveds b) i 0 ≡ 0
-  unfolding Waits
-  waits-unserved e = getD-serveds b i ∙ serves-not (getD b i 0) (omega arith)
+  pub view-serveds : (r t : ℕ) → r < records → t < terms → view (serveds b) r t ≡ bit (mark-of b t) r - bit (wait-of b t) r
+  view-serveds r t h k = difference r t h k ∙ (rw (view-questions marks-at b r t h k, view-questions waits-at b r t h k))
 
-  pub served-or-waits : getD (lows b) i 0 ≡ 1 → (getD (serveds b) i 0 ≡ 1) ⊎ Waits b i
-  unfolding Waits
-  served-or-waits e = elim (ℕ-discrete (getD b i 0 % lowest) 1) [
-    | yes f ↦ inl (getD-serveds b i ∙ serves (getD b i 0) f)
-    | no f ↦ inr (omega (arith, getD-lows b i))
+  -- past the table there is none
+  inside : (i : ℕ) → getD (markeds b) i 0 ≡ 1 → i < records * terms
+  inside i e = elim (decLt i (records * terms)) [
+    | yes h ↦ h
+    | no h ↦ absurd (omega (arith, List·getD-eq-default (markeds b) 0 {n = i} (omega (arith, length-questions marks-at b))))
   ]
 
-  pub served-marked : getD (serveds b) i 0 ≡ 1 → getD (lows b) i 0 ≡ 1
-  served-marked e = elim (ℕ-discrete (getD b i 0 % lowest) 1) [
-    | yes f ↦ omega (arith, getD-lows b i)
-    | no f ↦ absurd (omega (arith, getD-serveds b i, serves-not (getD b i 0) f))
-  ]
+  -- What waits is marked and not served; what is marked waits or is served.
+  module _ (i : ℕ) where
+    waits-unserved : Waits b i → getD (serveds b) i 0 ≡ 0
+    waits-unserved w = let m = w .marked in let e = w .waits in omega (arith, getD-serveds i (inside i m))
 
--- A store that keeps the high bits keeps the cells.
-pub cells-keep : (b : List ℕ) (i v : ℕ) → v / lowest ≡ getD b i 0 / lowest → cells (set b i v) ≡ cells b
-cells-keep b i v e = cells-same b (set b i v) (length-set b i v) λ k. elim (decLt i (length b)) [
-  | yes h ↦ ⊎-elim (λ (at, s). rw (s, at) e) (λ s. rw s) (stored b i v h k)
-  | no h ↦ rw (set-out b i v (omega arith))
-]
+    pub served-or-waits : getD (markeds b) i 0 ≡ 1 → (getD (serveds b) i 0 ≡ 1) ⊎ Waits b i
+    unfolding Bits
+    served-or-waits e = elim (ℕ-discrete (getD (waitings b) i 0) 1) [
+      | yes f ↦ inr (record { marked = e; waits = f })
+      | no f ↦ inl (omega (arith, getD-serveds i (inside i e), questions-bits waits-at b i))
+    ]
 
-below-keep : (b : List ℕ) (i v : ℕ) → v / lowest ≡ getD b i 0 / lowest → Below b (set b i v)
-below-keep b i v e = λ j h. rw (cells-keep b i v e)
+    pub served-marked : getD (serveds b) i 0 ≡ 1 → getD (markeds b) i 0 ≡ 1
+    unfolding Bits
+    served-marked e = elim (decLt i (records * terms)) [
+      | yes h ↦ omega (arith, getD-serveds i h, questions-bits marks-at b i)
+      | no h ↦ absurd (omega (arith, List·getD-eq-default (serveds b) 0 {n = i} (omega (arith, length-serveds))))
+    ]
+
+  -- a question that waits, by the bits
+  pub waits-by : (r t : ℕ) → r < records → t < terms → bit (mark-of b t) r ≡ 1 → bit (wait-of b t) r ≡ 1 → Waits b (place r t)
+  unfolding view
+  waits-by r t h k m w = record { marked = view-questions marks-at b r t h k ∙ m; waits = view-questions waits-at b r t h k ∙ w }
+
+  pub waits-bits : (r t : ℕ) → r < records → t < terms → Waits b (place r t) → (bit (mark-of b t) r ≡ 1) × (bit (wait-of b t) r ≡ 1)
+  unfolding view
+  waits-bits r t h k w = (sym (view-questions marks-at b r t h k) ∙ w .marked, sym (view-questions waits-at b r t h k) ∙ w .waits)
+
+-- The same are served where the bits tell so.
+same-serveds : (b d : List ℕ) → ((r t : ℕ) → r < records → t < terms →
+    bit (mark-of d t) r - bit (wait-of d t) r ≡ bit (mark-of b t) r - bit (wait-of b t) r) → serveds d ≡ serveds b
+same-serveds b d same = same-views (serveds d) (serveds b) (length-serveds d) (length-serveds b)
+    λ r t h k. view-serveds d r t h k ∙ same r t h k ∙ sym (view-serveds b r t h k)
 
 -- Nothing done.
 pub kept-none : (b : List ℕ) → Kept b b
-kept-none b = record { served = refl; below = λ i h. refl }
+kept-none b = record { long = refl; served = refl; below = λ i h. refl }
 
 pub kept-then : {b c d : List ℕ} → Kept b c → Kept c d → Kept b d
-kept-then p q = record { served = q .served ∙ p .served; below = λ i h. q .below i h ∙ p .below i h }
+kept-then p q = record { long = q .long ∙ p .long; served = q .served ∙ p .served; below = λ i h. q .below i h ∙ p .below i h }
 
-pub aside-none : (b : List ℕ) → Aside b b
-aside-none b = record { same = refl; kept = kept-none b }
+-- A byte between the threads and the words was stored.
+pub byte-aside : (b : List ℕ) (i v : ℕ) → free + free ≤ i → i < marks-at → Aside b (set b i v)
+byte-aside b i v behind before = record {
+  same = same-questions marks-at b (set b i v) (λ t h. word-same (marks-at + size * t) (omega arith));
+  kept = record {
+    long = simp length-set;
+    served = same-serveds b (set b i v) (λ r t h k. rw (word-same (marks-at + size * t) (omega arith), word-same (waits-at + size * t) (omega arith)));
+    below = kept-byte b i v behind .same;
+  };
+}
+  where
+    word-same : (at : ℕ) → i < at → word (set b i v) at ≡ word b at
+    word-same at h = same-word b (set b i v) at (λ k l. getD-set-other b i (at + k) v 0 (omega arith))
 
-pub aside-then : {b c d : List ℕ} → Aside b c → Aside c d → Aside b d
-aside-then p q = record { same = q .same ∙ p .same; kept = kept-then (p .kept) (q .kept) }
+-- Two words of a term were stored.
+pub renewed : {t old all : ℕ} {b c d : List ℕ} → t < terms → WordPut (marks-at + size * t) all b c →
+    WordPut (waits-at + size * t) (bitOr (wait-of c t) (bitXor all old)) c d → Renewed t old all b d
+renewed {t} {old} {all} {b} {c} {d} h one two = record {
+  long = two .long ∙ one .long;
+  marked = word-others two (marks-at + size * t) (inl (omega arith)) ∙ one .stored;
+  waits = λ r. ap (λ w. bit w r) (two .stored) ∙ bit-or (wait-of c t) (bitXor all old) r ∙ (rw (word-others one (waits-at + size * t) (inr (omega arith))));
+  others = λ u k apart. (
+    word-others two (marks-at + size * u) (inl (omega arith)) ∙ word-others one (marks-at + size * u) (beside u apart),
+    word-others two (waits-at + size * u) (aside u apart) ∙ word-others one (waits-at + size * u) (inr (omega arith)),
+  );
+  below = kept-bytes (two .long ∙ one .long) (λ i k. two .others i (inl (omega arith)) ∙ one .others i (inl (omega arith))) .same;
+}
+  where
+    beside : (u : ℕ) → u ≢ t → (marks-at + size * u + size ≤ marks-at + size * t) ⊎ (marks-at + size * t + size ≤ marks-at + size * u)
+    beside u apart = elim (decLt u t) [ yes l ↦ inl (omega arith) | no l ↦ inr (omega arith) ]
 
--- A mark where none was.
-pub mark-kept : (b : List ℕ) (i v : ℕ) → getD b i 0 % 2 ≢ 1 → v ≡ getD b i 0 / lowest * lowest + 3 → Kept b (set b i v)
-unfolding serveds
-mark-kept b i v e f = record {
-  served = map-set-keep serving b i v (serves-not v (omega arith) ∙ sym (serves-not (getD b i 0) (omega arith)));
-  below = below-keep b i v (omega arith);
+    aside : (u : ℕ) → u ≢ t → (waits-at + size * u + size ≤ waits-at + size * t) ⊎ (waits-at + size * t + size ≤ waits-at + size * u)
+    aside u apart = elim (decLt u t) [ yes l ↦ inl (omega arith) | no l ↦ inr (omega arith) ]
+
+-- A set was marked at t.
+module _ {set t : ℕ} {b : List ℕ} (h : t < terms) where
+  pub set-marked : {d : List ℕ} → Renewed t (mark-of b t) (bitOr (mark-of b t) set) b d → SetMarked set t b d
+  set-marked {d} new = record {
+    there = λ r k. view-questions marks-at d r t k h ∙ ap (λ w. bit w r) (new .marked) ∙ bit-or (mark-of b t) set r ∙ (rw (view-questions marks-at b r t k h));
+    others = λ r u k l apart. view-questions marks-at d r u k l ∙ ap (λ w. bit w r) (new .others u l apart .0) ∙ sym (view-questions marks-at b r u k l);
+    kept = record { long = new .long; served = same-serveds b d same; below = new .below };
+  }
+    where
+      same : (r u : ℕ) → r < records → u < terms → bit (mark-of d u) r - bit (wait-of d u) r ≡ bit (mark-of b u) r - bit (wait-of b u) r
+      same r u k l = elim (ℕ-discrete u t) [
+        | yes e ↦ rw (e, new .marked, new .waits r) (omega (arith, bit-or (mark-of b t) set r, bit-xor (bitOr (mark-of b t) set) (mark-of b t) r))
+        | no e ↦ rw (new .others u l e .0, new .others u l e .1)
+      ]
+
+  -- Or all of it was.
+  pub set-there : bitOr (mark-of b t) set ≡ mark-of b t → SetMarked set t b b
+  set-there e = record {
+    there = λ r k. rw (view-questions marks-at b r t k h) (omega (arith, bit-or (mark-of b t) set r, ap (λ w. bit w r) e));
+    others = λ r u k l apart. refl;
+    kept = kept-none b;
+  }
+
+-- What is aside changes nothing of it.
+pub marked-aside : {set t : ℕ} {b c d : List ℕ} → SetMarked set t b c → Aside c d → SetMarked set t b d
+marked-aside marked aside = record {
+  there = λ r h. rw (aside .same) (marked .there r h);
+  others = λ r u h k apart. rw (aside .same) (marked .others r u h k apart);
+  kept = kept-then (marked .kept) (aside .kept);
 }
 
 -- A question is taken up, or it does not wait.
-module _ (b : List ℕ) (r t : ℕ) {i : ℕ} (here : i ≡ place r t) where
-  pub taken-up : getD b i 0 % lowest ≡ 3 → TakenUp r t b (set b i (getD b i 0 - 2)) true
-  unfolding Waits
-  taken-up e =
-      let v = getD b i 0 - 2 in
-      record {
-        same = lows-set-keep b i v (omega arith);
-        below = below-keep b i v (omega arith);
-        served = record {
-          waited = λ _. rw (← here, serveds-set b i v, serves v (omega arith));
-          left = λ n. absurd (n (rw (← here) e));
-        };
-        waited = λ _. rw (← here) e;
-        left = λ nay. let z : _≡_ {A = ℕ} 0 1 = cc in absurd (omega arith);
-      }
-
-  pub left-there : getD b i 0 % lowest ≢ 3 → TakenUp r t b b false
-  unfolding Waits
-  left-there e = record {
-    same = refl;
-    below = λ j h. refl;
-    served = record { waited = λ w. absurd (e (rw here w)); left = λ _. refl };
-    waited = λ yea. let z : _≡_ {A = ℕ} 0 1 = cc in absurd (omega arith);
-    left = λ _. refl;
+module _ (b : List ℕ) {r t : ℕ} (row : r < records) (h : t < terms) where
+  pub taken-up : {d : List ℕ} → WordPut (waits-at + size * t) (bitXor (wait-of b t) (2 ^ r)) b d →
+      bitAnd (bitAnd (mark-of b t) (wait-of b t)) (2 ^ r) ≢ 0 → TakenUp r t b d true
+  taken-up {d} put e = record {
+    long = put .long;
+    same = same-questions marks-at b d marks;
+    below = kept-bytes (put .long) (λ i k. put .others i (inl (omega arith))) .same;
+    served = record { waited = λ _. one; left = λ n. absurd (n waits) };
+    waited = λ _. waits;
+    left = λ nay. absurd (true≢false nay);
   }
-
--- what is made of the two low bits of each byte alone
-cut-low : (f : ℕ → ℕ) → ((x : ℕ) → f (x % lowest) ≡ f x) → (b : List ℕ) → map f (lowests b) ≡ map f b
-unfolding lowests
-cut-low f cut [] = refl
-cut-low f cut (x ∷ b) = rw (cut x) (ap (λ (l : List ℕ). f x ∷ l) (cut-low f cut b))
-
-same-low : (f : ℕ → ℕ) → ((x : ℕ) → f (x % lowest) ≡ f x) → (b d : List ℕ) → lowests d ≡ lowests b → map f d ≡ map f b
-same-low f cut b d e = sym (cut-low f cut d) ∙ ap (map f) e ∙ cut-low f cut b
-
--- A cell behind the threads was stored.
-pub put-aside : {b d : List ℕ} {i : ℕ} → CellPut i b d → free ≤ i → Aside b d
-unfolding serveds lows
-put-aside {b} {d} put behind = record {
-  same = same-low low (λ x. omega arith) b d (put .low);
-  kept = record {
-    served = same-low serving (λ x. let e : x % lowest % lowest ≡ x % lowest = omega arith in rw e) b d (put .low);
-    below = λ j h. put .others j (omega arith);
-  };
-}
-
--- A byte behind the threads was left with its two low bits.
-pub cut-aside : (b : List ℕ) (i : ℕ) → free + free ≤ i → Aside b (set b i (getD b i 0 % lowest))
-unfolding serveds
-cut-aside b i behind =
-    let v = getD b i 0 % lowest in
-    let e : v % lowest ≡ v = omega arith in
-    record {
-      same = lows-set-keep b i v (omega arith);
-      kept = record { served = map-set-keep serving b i v (rw e); below = kept-byte b i v behind .same };
-    }
-
--- One question more is served, if it waited.
-module _ {r t : ℕ} {b d : List ℕ} (one : OneServed r t b d) where
-  pub one-falls : place r t < length b → Waits b (place r t) → blank (serveds d) < blank (serveds b)
-  one-falls h w = rw (one .waited w) (blank-mark (serveds b) (place r t) (rw (length-serveds b) h) (waits-unserved b (place r t) w))
-
-  pub one-fewer : place r t < length b → blank (serveds d) ≤ blank (serveds b)
-  unfolding Waits
-  one-fewer h = elim (ℕ-discrete (getD b (place r t) 0 % lowest) 3) [
-    | yes w ↦ omega (arith, one-falls h w)
-    | no w ↦ rw (one .left w) (le-refl _)
-  ]
-
-  -- and another that waits still does
-  one-others : (i : ℕ) → i ≢ place r t → (getD (lows b) i 0 ≡ 1 → getD (lows d) i 0 ≡ 1) → Waits b i → Waits d i
-  unfolding Waits
-  one-others i other grows w = ⊎-elim (λ s. absurd (omega (arith, waits-unserved b i w, same))) (λ w. w) (served-or-waits d i (grows (waits-marked b i w)))
     where
-      same : getD (serveds d) i 0 ≡ getD (serveds b) i 0
-      same = elim (ℕ-discrete (getD b (place r t) 0 % lowest) 3) [
-        | yes w ↦ rw (one .waited w) (getD-set-other (serveds b) (place r t) i 1 0 other)
-        | no w ↦ rw (one .left w)
+      both : (bit (mark-of b t) r ≡ 1) × (bit (wait-of b t) r ≡ 1)
+      both = let k = has-one (bitAnd (mark-of b t) (wait-of b t)) r e in let m = bit-and (mark-of b t) (wait-of b t) r in (omega arith, omega arith)
+
+      waits : Waits b (place r t)
+      waits = waits-by b r t row h (both .0) (both .1)
+
+      marks : (u : ℕ) → u < terms → mark-of d u ≡ mark-of b u
+      marks u k = word-others put (marks-at + size * u) (inl (omega arith))
+
+      -- the word of another term is not touched
+      beside : (u : ℕ) → u ≢ t → wait-of d u ≡ wait-of b u
+      beside u apart = word-others put (waits-at + size * u) (elim (decLt u t) [ yes l ↦ inl (omega arith) | no l ↦ inr (omega arith) ])
+
+      -- nor is another record's bit
+      there : (q : ℕ) → q ≢ r → bit (wait-of d t) q ≡ bit (wait-of b t) q
+      there q apart = rw (put .stored) (omega (arith, bit-xor (wait-of b t) (2 ^ r) q, bit-other r q apart))
+
+      own : bit (wait-of d t) r ≡ 0
+      own = rw (put .stored) (omega (arith, bit-xor (wait-of b t) (2 ^ r) r, bit-own r, both))
+
+      view-one : (q u : ℕ) → q < records → u < terms → view (serveds d) q u ≡ view (set (serveds b) (place r t) 1) q u
+      view-one q u k l = elim (ℕ-discrete u t) [
+        | yes e ↦ elim (ℕ-discrete q r) [
+          | yes f ↦ rw (e, f, view-serveds d r t row h, marks t h, own, view-set-same (serveds b) r t 1 (rw (length-serveds b) (place-below row h))) (omega (arith, both))
+          | no f ↦ rw (e, view-serveds d q t k h, marks t h, there q f, view-set-other (serveds b) {r = r} {q = q} {t = t} {u = t} 1 h h (inl (λ z. f (sym z))), view-serveds b q t k h)
+        ]
+        | no e ↦ rw (view-serveds d q u k l, marks u l, beside u e, view-set-other (serveds b) {r = r} {q = q} {t = t} {u = u} 1 h l (inr (λ z. e (sym z))), view-serveds b q u k l)
       ]
 
--- of the n records those from number r on had their turn at t
-pub record Turned (n t r : ℕ) (b d : List ℕ) : Type 0 where
-  pub fewer : blank (serveds d) ≤ blank (serveds b)
-  pub still : (q : ℕ) → q < n → Waits b (place q t) → ((q < r) × Waits d (place q t)) ⊎ (blank (serveds d) < blank (serveds b))
+      one : serveds d ≡ set (serveds b) (place r t) 1
+      one = same-views (serveds d) (set (serveds b) (place r t) 1) (length-serveds d) (length-set (serveds b) (place r t) 1 ∙ length-serveds b) view-one
 
-pub turned-none : (n t : ℕ) (b : List ℕ) → Turned n t n b b
-turned-none n t b = record { fewer = le-refl _; still = λ q h w. inl (h, w) }
+  pub left-there : bitAnd (bitAnd (mark-of b t) (wait-of b t)) (2 ^ r) ≡ 0 → TakenUp r t b b false
+  left-there e = record {
+    long = refl;
+    same = refl;
+    below = λ j k. refl;
+    served = record { waited = λ w. absurd (none w); left = λ _. refl };
+    waited = λ yea. absurd (false≢true yea);
+    left = λ _. refl;
+  }
+    where
+      none : Waits b (place r t) → ⊥
+      none w =
+          let (m, k) = waits-bits b r t row h w in
+          has-none (bitAnd (mark-of b t) (wait-of b t)) r e (omega (arith, bit-and (mark-of b t) (wait-of b t) r))
 
-pub turned-more : {n t r : ℕ} {b c d : List ℕ} → t < terms → place r t < length c →
-    ((q : ℕ) → getD (lows c) (place q t) 0 ≡ 1 → getD (lows d) (place q t) 0 ≡ 1) →
-    Turned n t (r + 1) b c → OneServed r t c d → Turned n t r b d
-turned-more {n} {t} {r} {b} {c} {d} small inside grows turned one = record {
-  fewer = omega (arith, turned .fewer, one-fewer one inside);
-  still = λ q h w. ⊎-elim (λ (below, waits). onward q below waits) (λ l. inr (omega (arith, one-fewer one inside))) (turned .still q h w);
-}
-  where
-    onward : (q : ℕ) → q < r + 1 → Waits c (place q t) → ((q < r) × Waits d (place q t)) ⊎ (blank (serveds d) < blank (serveds b))
-    onward q below waits = elim (ℕ-discrete q r) [
-      | yes e ↦ inr (omega (arith, turned .fewer, one-falls one inside (rw e at waits)))
-      | no other ↦ inl (omega arith, one-others one (place q t) (λ e. other (one-place small small e .0)) (grows q) waits)
+-- One question more is served, if it waited.
+module _ {r t : ℕ} {b d : List ℕ} (one : OneServed r t b d) (h : place r t < records * terms) where
+  pub one-falls : Waits b (place r t) → Fewer b d
+  one-falls w = rw (one .waited w) (blank-mark (serveds b) (place r t) (rw (length-serveds b) h) (waits-unserved b (place r t) w))
+
+  pub one-fewer : blank (serveds d) ≤ blank (serveds b)
+  one-fewer = elim (ℕ-discrete (getD (markeds b) (place r t) 0) 1) [
+    | yes m ↦ elim (ℕ-discrete (getD (waitings b) (place r t) 0) 1) [
+      | yes w ↦ omega (arith, one-falls (record { marked = m; waits = w }))
+      | no w ↦ rw (one .left (λ k. w (k .waits))) (le-refl _)
     ]
+    | no m ↦ rw (one .left (λ k. m (k .marked))) (le-refl _)
+  ]
 
-pub turned-all : {n t : ℕ} {b d : List ℕ} → Turned n t 0 b d → SomeServed n t b d
-turned-all turned = record {
-  fewer = turned .fewer;
-  falls = λ r h w. ⊎-elim (λ (l, _). absurd (omega arith)) (λ l. l) (turned .still r h w);
-}
+-- After a first turn at this question, and whatever comes then, more are served if it waited.
+pub turned : {from t r : ℕ} {b₀ b d : List ℕ} → ((b ≡ b₀) × (r ≡ from)) ⊎ (Waits b₀ (place from t) → Fewer b₀ b) → place r t < records * terms →
+    OneServed r t b d → Waits b₀ (place from t) → Fewer b₀ d
+turned (inl (same, is)) h one w = one-falls (rw (same, is) at one) (rw is at h) w
+turned (inr falls) h one w = omega (arith, falls w, one-fewer one h)
 
--- Which term is next is the same once it is picked.
-pub picked-now : {n head tail : ℕ} {b d : List ℕ} {t : ℕ} → Picked n head tail b d t → Picked n head tail d d t
-picked-now {d = d} picked = record { aside = aside-none d; none = picked .none; one = picked .one }
-
--- A turn at the term that is next uses up the queue, or serves a question.
-pub turn-falls : {n head tail later t : ℕ} {b c d : List ℕ} → Picked n head tail b b t → t < terms → (head ≤ later) × (head ≤ most → head < tail → head < later) →
-    SomeServed n t b c → Kept c d → most + 1 - later + blank (serveds d) < most + 1 - head + blank (serveds b)
-turn-falls picked h (up, on) some kept =
-    let same = ap blank (kept .served) in
-    let fewer = some .fewer in
-    ⊎-elim (λ (low, room). let next = on low room in omega arith) (λ (r, k, w). let falls = some .falls r k w in omega arith) (picked .one h)
+-- A turn at the question that is next uses up the queue, or serves a question.
+pub turn-falls : {n head tail later i : ℕ} {b : List ℕ} (d : List ℕ) → Picked n head tail b i → i < n * terms → (head ≤ later) × (head < most → head < tail → head < later) →
+    blank (serveds d) ≤ blank (serveds b) → (Waits b i → Fewer b d) → most - later + blank (serveds d) < most - head + blank (serveds b)
+turn-falls d picked h (up, on) fewer falls =
+    ⊎-elim (λ (low, room). let next = on low room in omega arith) (λ w. let fall = falls w in omega arith) (picked .one h)

@@ -1,6 +1,6 @@
 -- What the functions over the byte table promise, one record each, over the marks.
 -- A look at a marked question marks its test, and what follows where it is done.
-use Prim.Native.Nat.{ℕ, _*_, _-_, _<_, _≤_}
+use Prim.Native.Nat.{ℕ, _*_, _-_, _^_, _<_, _≤_}
 use mathlib.Core.Path.{_≡_}
 use mathlib.Core.Bool.{Bool, true, false}
 use mathlib.Core.List.{List}
@@ -15,9 +15,12 @@ use Rattle.records.specs.Sites.{siteOf}
 use Rattle.records.specs.Rules.{recordsOf}
 use Rattle.fewest.specs.Frame.{Frame, frame}
 use Rattle.fewest.specs.Next.{Next, Home}
-use Rattle.fewest.specs.Offer.{place, view, Work, stepping, resting}
+use Rattle.fewest.specs.Offer.{Work, stepping, resting}
 use Rattle.fewest.specs.Work.{workOf, allowing}
+use Rattle.asked.specs.declared.follow.After.{After}
+use Rattle.asked.specs.Words.{sets, bit}
 use Rattle.asked.specs.Mark.{Marks, Marked, Done, Marking, Marked-from}
+use Rattle.asked.specs.Serve.{markeds, SetMarked}
 
 -- the byte table has its length
 unfoldable pub Whole : List ℕ → Type 0
@@ -27,15 +30,10 @@ Whole b = length b ≡ records * terms
 unfoldable pub Bits : List ℕ → Type 0
 Bits b = (i : ℕ) → getD b i 0 ≤ 1
 
--- the entry of record r at t is marked
-pub record OneMarked (r t : ℕ) (b b′ : List ℕ) : Type 0 where
-  pub fresh : view b r t ≡ 0 → b′ ≡ set b (place r t) 1
-  pub old : view b r t ≡ 1 → b′ ≡ b
-
--- the same where this says so, and else nothing is marked
+-- the question of record r at t is marked where this says so, and else none is
 pub record MarkedIf (p : Bool) (r t : ℕ) (b b′ : List ℕ) : Type 0 where
-  pub marked : p ≡ true → OneMarked r t b b′
-  pub left : p ≡ false → b′ ≡ b
+  pub marked : p ≡ true → SetMarked (2 ^ r) t b b′
+  pub left : p ≡ false → markeds b′ ≡ markeds b
 
 -- the end u is marked, where the table reaches so far
 pub record OneArrived (u : ℕ) (b b′ : List ℕ) : Type 0 where
@@ -43,10 +41,23 @@ pub record OneArrived (u : ℕ) (b b′ : List ℕ) : Type 0 where
   pub old : u < length b → getD b u 0 ≡ 1 → b′ ≡ b
   pub outside : length b ≤ u → b′ ≡ b
 
+-- the same where this says so, and else none is
+pub record ArrivedIf (p : Bool) (u : ℕ) (b b′ : List ℕ) : Type 0 where
+  pub marked : p ≡ true → OneArrived u b b′
+  pub left : p ≡ false → b′ ≡ b
+
 -- what follows record r's expression at u is marked
 pub record AllNext (F : Frame) (r u : ℕ) (M : Marks) : Type 0 where
   pub next : (b : ℕ) → Next F r b → Marked M b u
   pub home : u < length (M .ends) → Home F r → getD (M .ends) u 0 ≡ 1
+
+-- the records that are asked next where record r's expression is done, and whether the whole rule is done
+pub record Onward (up role : List ℕ) (r : ℕ) (x : After) : Type 0 where
+  pub small : x .set < sets
+  pub next : (s : meant.Site) (g : Goal) (q : ℕ) → Next (frame s up role g) r q → (q < records) × (bit (x .set) q ≡ 1)
+  pub only : (s : meant.Site) (g : Goal) (q : ℕ) → q < records → bit (x .set) q ≡ 1 → Next (frame s up role g) r q
+  pub home : (s : meant.Site) (g : Goal) → Home (frame s up role g) r → x .home ≡ true
+  pub ends : (s : meant.Site) (g : Goal) → x .home ≡ true → Home (frame s up role g) r
 
 -- where record r's expression is done at u, by whatever work, only what it asks for was marked, and what follows is
 abbrev pub Followed-up : List ℕ → List ℕ → ℕ → ℕ → Marks → Marks → Type 0

@@ -1,67 +1,43 @@
 // The questions of a rule: both tables are cleared, the whole rule's question is marked, and the chase goes on until none waits.
 use crate::chase::chase;
-use crate::mark::mark;
+use crate::mark::MARKS;
+use crate::mark::mark_on;
+use crate::narrow::clear_row;
+use crate::narrow::clear_rows;
+use crate::narrow::narrow;
+use crate::words::only;
 use records::RECORDS;
 use records::TERMS;
 ghost use mathlib.Core.Path.{_≡_};
 ghost use Prim.Native.Nat.{_*_, _<_};
 ghost use lib.ListN.{length, replicate};
 ghost use Rattle.meaning.specs.Limits.{terms, records};
-ghost use Rattle.fewest.specs.Cells.{cells};
-ghost use Rattle.fewest.specs.Lows.{lows};
+ghost use Rattle.fewest.specs.Kept.{Kept};
 ghost use Rattle.fewest.specs.Pairs.{pairs};
 ghost use Rattle.fewest.specs.Table.{Full};
 ghost use Rattle.fewest.specs.Threads.{Threads};
 ghost use Rattle.fewest.specs.Work.{Ready};
 ghost use Rattle.asked.specs.Mark.{marks};
+ghost use Rattle.asked.specs.Serve.{markeds};
 ghost use Rattle.asked.specs.Seek.{Whole, MarkedOver};
 
-// A row of the byte table is filled with 0.
-fn clear_row(row: &mut [u8])
-    ensures { λ _. ⌜ now (row .exit) ≡ replicate (length (now (row .entry))) 0 ⌝ }
-{
-    let mut t = 0;
-    while t < row.len() {
-        row[t] = 0;
-        t += 1;
-    }
-}
+// The first row of those that the words take.
+const WORDS: usize = MARKS / TERMS;
 
-// The byte table is filled with 0, row by row: each record's row is lent on to be filled.
+// The byte table is filled with 0.
 pub fn clear(asked: &mut [u8])
     requires { ⌜ Whole (now asked) ⌝ }
     ensures { λ _. ⌜ now (asked .exit) ≡ replicate (records * terms) 0 ⌝ }
 {
-    let mut r = 0;
-    while r < RECORDS {
-        let at = r * TERMS;
-        let end = at + TERMS;
-        clear_row(&mut asked[at..end]);
-        r += 1;
-    }
+    clear_rows(asked, 0)
 }
 
-// No question is marked or waits; the scratch above is kept.
+// No question is marked or waits; the threads are kept.
 fn free(asked: &mut [u8])
     requires { ⌜ Whole (now asked) ⌝ }
-    ensures { λ _. ⌜ (lows (now (asked .exit)) ≡ replicate (records * terms) 0) × (cells (now (asked .exit)) ≡ cells (now (asked .entry))) ⌝ }
+    ensures { λ _. ⌜ (markeds (now (asked .exit)) ≡ replicate (records * terms) 0) × Kept (now (asked .entry)) (now (asked .exit)) ⌝ }
 {
-    let mut i = 0;
-    while i < asked.len() {
-        asked[i] = asked[i] / 4 * 4;
-        i += 1;
-    }
-}
-
-// Only the marks are kept: the byte table holds 0 and 1.
-fn narrow(asked: &mut [u8])
-    ensures { λ _. ⌜ now (asked .exit) ≡ lows (now (asked .entry)) ⌝ }
-{
-    let mut i = 0;
-    while i < asked.len() {
-        asked[i] = asked[i] % 2;
-        i += 1;
-    }
+    clear_rows(asked, WORDS)
 }
 
 // The questions that the whole rule asks at the start, and the ends that it leads to, where a table of ends is lent.
@@ -84,7 +60,7 @@ pub fn ask<'a>(
 {
     free(asked);
     clear_row(ends);
-    mark(asked, count - 1, start, false);
+    let tail = mark_on(asked, only(count - 1), start, 0);
     chase(
         site,
         triples,
@@ -95,9 +71,9 @@ pub fn ask<'a>(
         role,
         first,
         numbers,
-        start,
         asked,
         ends,
+        tail,
     );
-    narrow(asked)
+    narrow(asked, count)
 }

@@ -1,15 +1,15 @@
 -- The laws of numbers in byte pairs: what is read at a place, what a store leaves, and what filling makes.
 -- Above them no proof looks at a byte.
 use Prim.Native.Nat.{ℕ, suc, zero, _+_, _*_, _/_, _<_, _≤_}
-use mathlib.Core.Path.{_≡_, refl, sym, ap, _∙_}
+use mathlib.Core.Path.{_≡_, refl, ap}
 use mathlib.Core.List.{List, [], _∷_, _++_, append-nil}
 use native.Mathlib.Omega.{arith}
 use native.Mathlib.Decide.{decLt}
 use lib.ListN.{length, getD, set, drop, replicate, List·getD-eq-default}
-use lib.Seq.{drop-length, ext-getD}
+use lib.Seq.{drop-length}
 use Rattle.records.specs.Bytes.{base}
 use Rattle.fewest.specs.Pairs.{coupled, pairs}
-use Rattle.fewest.specs.Cells.{half, lowest, cells}
+use Rattle.fewest.specs.Cells.{cells}
 
 twice : (i : ℕ) → suc i + suc i ≡ suc (suc (i + i))
 twice i = omega arith
@@ -56,35 +56,17 @@ pub pairs-set : (b : List ℕ) (i x y : ℕ) → i + i + 1 < length b → pairs 
 unfolding pairs
 pairs-set = store _
 
-pub cells-at : (b : List ℕ) (i : ℕ) → i + i + 1 < length b → getD (cells b) i 0 ≡ getD b (i + i) 0 / lowest * half + getD b (i + i + 1) 0 / lowest
+pub cells-at : (b : List ℕ) (i : ℕ) → i + i + 1 < length b → getD (cells b) i 0 ≡ getD b (i + i + 1) 0 * base + getD b (i + i) 0
 unfolding cells
 cells-at = at _
 
-pub cells-set : (b : List ℕ) (i x y : ℕ) → i + i + 1 < length b → cells (set (set b (i + i) x) (i + i + 1) y) ≡ set (cells b) i (x / lowest * half + y / lowest)
+pub cells-set : (b : List ℕ) (i x y : ℕ) → i + i + 1 < length b → cells (set (set b (i + i) x) (i + i + 1) y) ≡ set (cells b) i (y * base + x)
 unfolding cells
 cells-set = store _
 
 pub cells-long : (b : List ℕ) → length (cells b) ≡ length b / 2
 unfolding cells
 cells-long = long _
-
--- A cell reads the same where the high bits of its two bytes are the same.
-pub cells-read : (b d : List ℕ) → length d ≡ length b → (j : ℕ) → getD d (j + j) 0 / lowest ≡ getD b (j + j) 0 / lowest →
-    getD d (j + j + 1) 0 / lowest ≡ getD b (j + j + 1) 0 / lowest → getD (cells d) j 0 ≡ getD (cells b) j 0
-cells-read b d long j high low = elim (decLt (j + j + 1) (length b)) [
-  | yes h ↦ rw (cells-at d j (omega arith), cells-at b j h, high, low)
-  | no h ↦
-      rw (
-        List·getD-eq-default (cells d) 0 {n = j} (rw (cells-long d) (omega arith)),
-        List·getD-eq-default (cells b) 0 {n = j} (rw (cells-long b) (omega arith)),
-      )
-]
-
--- So all of them do where the high bits of all are.
-pub cells-same : (b d : List ℕ) → length d ≡ length b → ((k : ℕ) → getD d k 0 / lowest ≡ getD b k 0 / lowest) → cells d ≡ cells b
-cells-same b d long same =
-    ext-getD 0 (cells d) (cells b) (cells-long d ∙ ap (λ (n : ℕ). n / 2) long ∙ sym (cells-long b))
-    (λ j h. cells-read b d long j (same (j + j)) (same (j + j + 1)))
 
 -- bytes that are all the same make numbers that are
 pairs-same : (n v : ℕ) → pairs (replicate (n + n) v) ≡ replicate n (v * base + v)

@@ -1,6 +1,5 @@
 -- Laws that belong to no one function: numbers in bytes, low bits, places, the bound, the bridge to the meaning, the loops' laws.
 pub mod Decoded
-pub mod Lows
 pub mod Places
 pub mod Entries
 pub mod Bound

@@ -75,9 +75,9 @@ role-known (one-of r b K) = role-known K
 role-known (other-of r a K) = role-known K
 role-known (round-of r K) = omega arith
 
--- a walk up the links climbs, inside the records
-abbrev Higher : List ℕ → List ℕ → Type 0
-Higher up role = (k : ℕ) → getD role k 0 ≢ as-whole → (k < getD up k 0) × (getD up k 0 < records)
+-- a walk up the links climbs, inside so many records
+abbrev Higher : ℕ → List ℕ → List ℕ → Type 0
+Higher count up role = (k : ℕ) → getD role k 0 ≢ as-whole → (k < getD up k 0) × (getD up k 0 < count)
 
 -- the operands of the records from r on have their entries, and the joins from r on their first operands
 pub record Linking (rule : Expr) (r : ℕ) (L : Links) : Type 0 where
@@ -87,14 +87,13 @@ pub record Linking (rule : Expr) (r : ℕ) (L : Links) : Type 0 where
   pub stands : (e : Expr) (K : Context) → plug e K ≡ rule → (K ≡ whole) ⊎ (r ≤ parentOf K) → Right L e K
   pub sequences : (q : ℕ) (a b : Expr) (K : Context) → plug (sequence q a b) K ≡ rule → r ≤ q → getD (L .first) q 0 ≡ last a
   pub choices : (q : ℕ) (a b : Expr) (K : Context) → plug (choice q a b) K ≡ rule → r ≤ q → getD (L .first) q 0 ≡ last a
-  pub higher : Higher (L .up) (L .role)
+  pub higher : Higher (size rule) (L .up) (L .role)
   pub known : (k : ℕ) → getD (L .role) k 0 ≤ as-round
-  pub firsts : (k : ℕ) → getD (L .first) k 0 < records
+  pub firsts : (k : ℕ) → getD (L .first) k 0 < size rule
 
 -- At the end of the rule the arrays hold 0, which is right for the whole rule.
 linking-none : {rule : Expr} {r : ℕ} → Numbered 0 rule → size rule ≤ r →
     Linking rule r (links (replicate records 0) (replicate records 0) (replicate records 0))
-unfolding records
 linking-none {rule} {r} numbered past = record {
   ups = front-none .long;
   roles = front-none .long;
@@ -106,15 +105,15 @@ linking-none {rule} {r} numbered past = record {
   choices = λ q a b K p h. absurd (omega (arith, rw p at (node-below (choice q a b) K (rw p numbered))));
   higher = λ k other. absurd (other (front-none .each k));
   known = λ k. omega (arith, front-none .each k);
-  firsts = λ k. omega (arith, front-none .each k);
+  firsts = λ k. omega (arith, front-none .each k, node-below rule whole numbered);
 }
 
 -- what holds of every entry holds after a store of which it holds
 every-store : (P : ℕ → Type 0) (T : List ℕ) (i v : ℕ) → i < length T → P v → ((k : ℕ) → P (getD T k 0)) → (k : ℕ) → P (getD (set T i v) k 0)
 every-store P T i v h p old k = ⊎-elim (λ z. rw (z .1) p) (λ z. rw z (old k)) (stored T i v h k)
 
-higher-store : (up role : List ℕ) (i p s : ℕ) → i < length up → i < length role → (s ≢ as-whole → (i < p) × (p < records)) →
-    Higher up role → Higher (set up i p) (set role i s)
+higher-store : {count : ℕ} (up role : List ℕ) (i p s : ℕ) → i < length up → i < length role → (s ≢ as-whole → (i < p) × (p < count)) →
+    Higher count up role → Higher count (set up i p) (set role i s)
 higher-store up role i p s h j good old k other = elim (ℕ-discrete k i) [
   | yes e ↦
       let u : getD (set up i p) k 0 ≡ p = rw e (getD-set-same up i p 0 h) in
@@ -123,8 +122,12 @@ higher-store up role i p s h j good old k other = elim (ℕ-discrete k i) [
 ]
 
 module _ {rule : Expr} (numbered : Numbered 0 rule) (few : size rule ≤ records) where
+  -- the record of a subexpression is one of the rule's, so the arrays have an entry for it
+  within : (e : Expr) (K : Context) → plug e K ≡ rule → last e < size rule
+  within e K p = rw p at (node-below e K (rw p numbered))
+
   inside : (e : Expr) (K : Context) → plug e K ≡ rule → last e < records
-  inside e K p = omega (arith, few, rw p at (node-below e K (rw p numbered)))
+  inside e K p = omega (arith, few, within e K p)
 
   -- what is stored for one subexpression leaves the entries of all right,
   entry-keep : (v : Context → ℕ) (T : List ℕ) (f e : Expr) (F K : Context) → plug f F ≡ rule → plug e K ≡ rule → length T ≡ records →
@@ -156,14 +159,14 @@ module _ {rule : Expr} (numbered : Numbered 0 rule) (few : size rule ≤ records
     sequences = l .sequences;
     choices = l .choices;
     higher = higher-store (L .up) (L .role) (last f) (upOf F) (roleOf F) (rw (l .ups) (inside f F p)) (rw (l .roles) (inside f F p))
-        (λ other. let (later, below) = over f F (rw p numbered) other in (later, omega (arith, few, rw p at below)))
+        (rw p at (over f F (rw p numbered)))
         (l .higher);
     known = every-store (λ s. s ≤ as-round) (L .role) (last f) (roleOf F) (rw (l .roles) (inside f F p)) (role-known F) (l .known);
     firsts = l .firsts;
   }
 
   -- a join's first operand is stored for itself alone
-  begin-linking : {r : ℕ} {L : Links} (q v : ℕ) → q < r → q < records → v < records → Linking rule r L → Linking rule r (begin q v L)
+  begin-linking : {r : ℕ} {L : Links} (q v : ℕ) → q < r → q < records → v < size rule → Linking rule r L → Linking rule r (begin q v L)
   begin-linking {r} {L} q v before room small l = record {
     ups = l .ups;
     roles = l .roles;
@@ -173,7 +176,7 @@ module _ {rule : Expr} (numbered : Numbered 0 rule) (few : size rule ≤ records
     choices = λ k a b K p h. getD-set-other (L .first) q k v 0 (λ e. omega arith) ∙ l .choices k a b K p h;
     higher = l .higher;
     known = l .known;
-    firsts = every-store (λ s. s < records) (L .first) q v (rw (l .long) room) small (l .firsts);
+    firsts = every-store (λ s. s < size rule) (L .first) q v (rw (l .long) room) small (l .firsts);
   }
 
   -- so what is stored for the operands of a record before them spoils nothing
@@ -182,10 +185,10 @@ module _ {rule : Expr} (numbered : Numbered 0 rule) (few : size rule ≤ records
   operands-linking (step q a b) N p h l = l
   operands-linking (tested q a x) N p h l = stand-linking x (test q a N) p l
   operands-linking (sequence q a b) N p h l =
-      begin-linking q (last a) h (inside (sequence q a b) N p) (inside a (first-of q b N) p)
+      begin-linking q (last a) h (inside (sequence q a b) N p) (within a (first-of q b N) p)
       (stand-linking a (first-of q b N) p (stand-linking b (second-of q a N) p l))
   operands-linking (choice q a b) N p h l =
-      begin-linking q (last a) h (inside (choice q a b) N p) (inside a (one-of q b N) p)
+      begin-linking q (last a) h (inside (choice q a b) N p) (within a (one-of q b N) p)
       (stand-linking a (one-of q b N) p (stand-linking b (other-of q a N) p l))
   operands-linking (star q a) N p h l = stand-linking a (round-of q N) p l
 
@@ -272,8 +275,11 @@ module _ {s : List ℕ} {count : ℕ} (checked : RuleChecked s (Rule count)) whe
   pub linking-end : {r : ℕ} {L : Links} → r ≤ 0 → LinkingOf (recordsOf s) r L → LinksOf s count L
   linking-end end done =
       let (leaves, long, few) = rule-leaves checked in
-      let (rule, x) = leaves-expression leaves in record {
+      let (rule, x) = leaves-expression leaves in
+      let all = expression-long x in
+      let l = done rule x in record {
         linked = λ e y. linking-all end (done e y);
-        climbs = record { few = omega arith; higher = λ k h. done rule x .higher k; known = λ k h. done rule x .known k };
-        firsts = λ k h. done rule x .firsts k;
+        climbs = record { few = omega arith; higher = λ k h o. (l .higher k o .0, omega (arith, l .higher k o)); known = λ k h. l .known k };
+        inside = λ k h o. omega (arith, l .higher k o);
+        firsts = λ k h. omega (arith, l .firsts k);
       }

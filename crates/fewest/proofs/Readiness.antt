@@ -46,6 +46,7 @@ ready {rule = rule} {count = count} {x = x} good checked read made =
       climbs = made .climbs;
       counted = long;
       few = few;
+      inside = made .inside;
       firsts = made .firsts;
       reads = λ r h. sym (rule-placed answer front r h .1);
       sits = λ r h.

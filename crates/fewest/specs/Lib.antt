@@ -1,6 +1,5 @@
 -- What the number table's functions promise.
 pub mod Pairs
-pub mod Lows
 pub mod Cells
 pub mod Frame
 pub mod LinksOf

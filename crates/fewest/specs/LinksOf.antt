@@ -1,14 +1,15 @@
--- What building the links of a checked rule promises: they are the rule's own, and a walk up them stays inside the records.
+-- What building the links of a checked rule promises: they are the rule's own, and a walk up them stays inside its records.
 -- One record's part is to say of its operands where they stand.
 use Prim.Native.Nat.{ℕ, _+_, _-_, _<_}
 use mathlib.Core.Path.{_≡_}
+use mathlib.Core.Logic.{_≢_}
 use mathlib.Core.List.{List}
 use lib.ListN.{getD, set}
 use Rattle.meaning.specs.Limits.{records}
 use Rattle.meaning.specs.Expression.{Rec, plain, testing, joining, choosing, starring, Expr, Expression}
 use Rattle.records.specs.Rules.{recordsOf}
 use Rattle.records.specs.First.{First, taken}
-use Rattle.fewest.specs.Frame.{as-test, as-first, as-round, Links, links, Linked, Climbs}
+use Rattle.fewest.specs.Frame.{as-whole, as-test, as-first, as-round, Links, links, Linked, Climbs}
 
 -- the expression of record k stands so below record p
 abbrev pub stand : (k p role : ℕ) → Links → Links
@@ -54,4 +55,5 @@ pub record Stood (rs : List Rec) (r : ℕ) (L L′ : Links) : Type 0 where
 pub record LinksOf (rule : List ℕ) (count : ℕ) (L : Links) : Type 0 where
   pub linked : (e : Expr) → Expression (recordsOf rule) e → Linked e L
   pub climbs : Climbs records (L .up) (L .role)
-  pub firsts : (r : ℕ) → r < count → getD (L .first) r 0 < records
+  pub inside : (r : ℕ) → r < count → getD (L .role) r 0 ≢ as-whole → getD (L .up) r 0 < count
+  pub firsts : (r : ℕ) → r < count → getD (L .first) r 0 < count

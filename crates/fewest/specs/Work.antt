@@ -176,13 +176,14 @@ abbrev pub RecordSwept : List ℕ → ℕ → Record → ℕ → List ℕ → Li
 RecordSwept b n x f up role g r T T′ was now =
     WorksSwept sum (λ w. Lowers (frame (siteOf b n) up role g) w r) (λ w. Quiet (frame (siteOf b n) up role g) w r) (worksOf (recOf x) r f) T T′ was now
 
--- what the sweeps stand on: a good site, the rule's records at their places, and links that climb
+-- what the sweeps stand on: a good site, the rule's records at their places, and links that climb inside these
 pub record Ready (site : List ℕ) (n : ℕ) (rule starts : List ℕ) (count : ℕ) (up role first : List ℕ) : Type 0 where
   pub good : Accepted site n
   pub climbs : Climbs records up role
   pub counted : count ≡ length (recordsOf rule)
   pub few : count ≤ records
-  pub firsts : (r : ℕ) → r < count → getD first r 0 < records
+  pub inside : (r : ℕ) → r < count → getD role r 0 ≢ as-whole → getD up r 0 < count
+  pub firsts : (r : ℕ) → r < count → getD first r 0 < count
   pub reads : (r : ℕ) → r < count → recAt rule (getD starts r 0) ≡ getD (recordsOf rule) r starring
   pub sits : (r : ℕ) → r < count → Sits (recordAt rule (getD starts r 0)) r
 

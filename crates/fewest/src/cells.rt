@@ -1,22 +1,16 @@
-// Scratch in the lent byte table: cells of two bytes. Each byte keeps its two low bits, where the marks of the questions stand.
-// The values are the list `cells` of the bytes. Past the end a cell reads 0 and takes nothing.
-use crate::pairs::get;
+// Scratch in the lent byte table: cells of two bytes, low byte first, which the compiler reads at once.
+// The values are the list `cells` of the bytes. Past the end a cell reads 0 and takes no set.
 use crate::pairs::wide;
 use records::bytes::BASE;
 ghost use mathlib.Core.Path.{_≡_};
 ghost use Prim.Native.Nat.{_+_, _<_, _≤_};
 ghost use lib.ListN.{length, getD, set};
-ghost use Rattle.fewest.specs.Cells.{values, cells, HalfPut, CellPut};
+ghost use Rattle.fewest.specs.Cells.{values, cells};
 ghost use Rattle.fewest.specs.Threads.{free};
 ghost use Rattle.fewest.specs.Kept.{Kept};
 
 // A cell's value is below this; a cell that names nothing has the greatest.
-pub const CELL: usize = HALF * HALF;
-
-// Six bits of a byte, above its two low ones.
-const HALF: usize = 64;
-
-const LOW: usize = 4;
+pub const CELL: usize = BASE * BASE;
 
 // The value of a cell.
 pub fn cell(scratch: &[u8], i: usize) -> usize
@@ -25,46 +19,19 @@ pub fn cell(scratch: &[u8], i: usize) -> usize
     if scratch.len() / 2 <= i {
         return 0;
     }
-    wide(scratch[i + i]) / LOW * HALF + wide(scratch[i + i + 1]) / LOW
+    wide(scratch[i + i + 1]) * BASE + wide(scratch[i + i])
 }
 
-// The high six bits of a byte take a value, the low ones stay.
-fn put_half(scratch: &mut [u8], at: usize, v: usize)
-    requires { ⌜ at < length (now scratch) ⌝ }
-    ensures { λ _. ⌜ HalfPut at (now (scratch .entry)) (now (scratch .exit)) ⌝ }
-{
-    scratch[at] = (v % HALF * LOW + wide(scratch[at]) % LOW) as u8;
-}
-
-// The cell takes a value; the marks stay.
+// The cell takes a value.
 pub fn put_cell(scratch: &mut [u8], i: usize, v: usize)
-    ensures { λ _. ⌜ CellPut i (now (scratch .entry)) (now (scratch .exit)) ⌝ }
-{
-    if scratch.len() / 2 <= i {
-        return;
-    }
-    put_half(scratch, i + i, v / HALF);
-    put_half(scratch, i + i + 1, v);
-}
-
-// The cell takes a value and loses its marks: for the time before any stands.
-pub fn put_new(scratch: &mut [u8], i: usize, v: usize)
     requires { ⌜ (i + i + 1 < length (now scratch)) × (v < values) ⌝ }
     ensures { λ _. ⌜ cells (now (scratch .exit)) ≡ set (cells (now (scratch .entry))) i v ⌝ }
 {
-    scratch[i + i] = (v / HALF * LOW) as u8;
-    scratch[i + i + 1] = (v % HALF * LOW) as u8;
+    scratch[i + i] = (v % BASE) as u8;
+    scratch[i + i + 1] = (v / BASE) as u8;
 }
 
-// A cell's whole bytes as a set of 16 bits.
-pub fn set_at(scratch: &[u8], i: usize) -> usize {
-    if scratch.len() / 2 <= i {
-        return 0;
-    }
-    get(scratch, i)
-}
-
-// The cell's whole bytes, which are behind the threads, take a set.
+// The cell, which is behind the threads, takes a set of 16 bits.
 pub fn put_set(scratch: &mut [u8], i: usize, set: usize)
     requires { ⌜ free ≤ i ⌝ }
     ensures { λ _. ⌜ Kept (now (scratch .entry)) (now (scratch .exit)) ⌝ }
@@ -72,8 +39,7 @@ pub fn put_set(scratch: &mut [u8], i: usize, set: usize)
     if scratch.len() / 2 <= i {
         return;
     }
-    scratch[i + i] = (set / BASE % BASE) as u8;
-    scratch[i + i + 1] = (set % BASE) as u8;
+    put_cell(scratch, i, set % CELL);
 }
 
 // The cells from one to another, which are behind the threads, take a set, if all of them are there.

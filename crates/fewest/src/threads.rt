@@ -2,7 +2,7 @@
 // triple the next with the same predicate and with the same object, none left out. By subject the site is in order: the next is the one after.
 use crate::cells::CELL;
 use crate::cells::cell;
-use crate::cells::put_new;
+use crate::cells::put_cell;
 use records::TERMS;
 use records::TRIPLES;
 use records::site::OBJECT;
@@ -39,21 +39,21 @@ fn clear(scratch: &mut [u8])
 {
     let mut i = 0;
     while i < scratch.len() {
-        scratch[i] = 252;
+        scratch[i] = 255;
         i += 1;
     }
 }
 
-// Triple k becomes the first of a thread. What the thread's cell held goes into the triple's own byte by byte: no mark stands yet.
+// Triple k becomes the first of a thread. What the thread's cell held goes into the triple's own, byte by byte.
 fn head(scratch: &mut [u8], first: usize, next: usize, k: usize)
     requires { ⌜ (first + first + 1 < length (now scratch)) × (next + next + 1 < length (now scratch)) × (k < values) ⌝ }
     ensures { λ _. ⌜ Headed first next k (cells (now (scratch .entry))) (cells (now (scratch .exit))) ⌝ }
 {
-    let high = scratch[first + first];
-    let low = scratch[first + first + 1];
-    scratch[next + next] = high;
-    scratch[next + next + 1] = low;
-    put_new(scratch, first, k);
+    let low = scratch[first + first];
+    let high = scratch[first + first + 1];
+    scratch[next + next] = low;
+    scratch[next + next + 1] = high;
+    put_cell(scratch, first, k);
 }
 
 // Triple k becomes the first of its threads.
@@ -64,7 +64,7 @@ fn thread_one(site: &[u8], k: usize, scratch: &mut [u8])
     let subject = term_at(site, k, SUBJECT);
     let predicate = term_at(site, k, PREDICATE);
     let object = term_at(site, k, OBJECT);
-    put_new(scratch, FIRST_SUBJECT + subject, k);
+    put_cell(scratch, FIRST_SUBJECT + subject, k);
     head(scratch, FIRST_PREDICATE + predicate, NEXT_PREDICATE + k, k);
     head(scratch, FIRST_OBJECT + object, NEXT_OBJECT + k, k);
 }

@@ -19,10 +19,10 @@ use crate::sets::sizes;
 use crate::sets::step_of;
 use fewest::Goal;
 use fewest::cells::byte_at;
+use fewest::cells::cell;
 use fewest::cells::put_byte;
 use fewest::cells::put_set;
 use fewest::cells::put_sets;
-use fewest::cells::set_at;
 use fewest::left::left;
 use fewest::links::AS_WHOLE;
 use fewest::look::Moved;
@@ -440,7 +440,7 @@ fn note(scratch: &mut [u8], side: usize, len: usize, one: usize, t: usize) -> us
     requires { ⌜ t < terms ⌝ }
     ensures { λ _. ⌜ Kept (now (scratch .entry)) (now (scratch .exit)) ⌝ }
 {
-    let had = set_at(scratch, NEW + side % 2 * TERMS + t);
+    let had = cell(scratch, NEW + side % 2 * TERMS + t);
     put_set(scratch, NEW + side % 2 * TERMS + t, had | one);
     if had != 0 {
         return len;
@@ -523,7 +523,7 @@ fn rise_term<'a>(
     if TERMS <= u {
         return;
     }
-    let new = set_at(scratch, NEW + side % 2 * TERMS + u);
+    let new = cell(scratch, NEW + side % 2 * TERMS + u);
     let k = witness(scratch, u);
     let all = also
         | rise(
@@ -542,7 +542,7 @@ fn rise_term<'a>(
             u,
             k,
         );
-    let done = set_at(scratch, DONE + u);
+    let done = cell(scratch, DONE + u);
     let ever = all | done;
     let set = possible(
         triples,
@@ -911,7 +911,7 @@ fn take_term<'a>(
     if TERMS <= u {
         return len;
     }
-    let set = set_at(scratch, NEW + side % 2 * TERMS + u);
+    let set = cell(scratch, NEW + side % 2 * TERMS + u);
     put_set(scratch, NEW + side % 2 * TERMS + u, 0);
     take_set(
         site,

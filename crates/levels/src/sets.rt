@@ -1,7 +1,7 @@
 // Which steps may be last in an expression, and which may come before it, as sets of the steps of its body: hints for the order
 // of work, read off the rule. A body has at most 16 steps, so a set has 16 bits; nothing rests on what a hint says.
+use fewest::cells::cell;
 use fewest::cells::put_set;
-use fewest::cells::set_at;
 use fewest::pairs::wide;
 use fewest::threads::FREE;
 use records::Label;
@@ -51,7 +51,7 @@ const STAR: usize = 128;
 
 // An entry of the columns.
 fn hint(scratch: &[u8], i: usize) -> usize {
-    set_at(scratch, HINTS + i % COLUMNS)
+    cell(scratch, HINTS + i % COLUMNS)
 }
 
 fn put_hint(scratch: &mut [u8], i: usize, v: usize)

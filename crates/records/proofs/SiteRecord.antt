@@ -7,7 +7,7 @@ use mathlib.Core.List.{List}
 use mathlib.Core.Bool.{true, not, and-eq-true-iff}
 use lib.ListN.{length, getD}
 use lib.Dec.{ltb, leb, eqb}
-use borrow.Author.Tests.{ltb-true, ltb-false, leb-true, leb-false, eqb-true, not-false, le-ltb}
+use borrow.Author.Tests.{ltb-true, ltb-false, leb-true, leb-false, eqb-true, not-false, lt-ltb, le-ltb, lt-leb, eq-eqb}
 use Rattle.meaning.specs.Limits.{terms, triples}
 use Rattle.meaning.specs.Site as meant
 use Rattle.records.specs.Sites.{tripleKind, tripleWidth, tripleOf, inCode, allTerms, isAbove, inOrder, siteRecordAt, Above, by-subject, by-predicate, by-object}
@@ -53,6 +53,15 @@ whole s at e = go (rw e at (outcome s at))
     go : {y : Triple} → Outcome s at (Read y) → Whole s at
     go (read w) = w
 
+-- and a whole record of a triple's kind is read
+pub read-whole : (s : List ℕ) (at : ℕ) → getD s at 0 ≡ tripleKind → Whole s at → siteRecordAt s at ≡ Read (inCode (tripleOf s at))
+unfolding siteRecordAt
+read-whole s at kind w =
+    let fits = w .fits in
+    let here : at < length s = omega arith in
+    let room : tripleWidth ≤ length s - at = omega arith in
+    simp (lt-leb _ _ here, lt-leb _ _ (w .few), eq-eqb _ _ kind, le-ltb _ _ room, w .terms, w .order)
+
 -- a site ends where no byte is left
 pub ends : (s : List ℕ) (at : ℕ) → siteRecordAt s at ≡ End → length s ≤ at
 ends s at e = go (rw e at (outcome s at))
@@ -72,6 +81,11 @@ all-terms x e =
     let (front, third) = and-eq-true-iff _ _ .0 e in
     let (first, second) = and-eq-true-iff _ _ .0 front in
     record { subject = ltb-true _ _ first; predicate = ltb-true _ _ second; object = ltb-true _ _ third }
+
+-- and a triple of terms passes
+pub terms-pass : (x : meant.Triple) → Terms x → allTerms (inCode x) ≡ true
+unfolding allTerms
+terms-pass x are = simp (lt-ltb _ _ (are .subject), lt-ltb _ _ (are .predicate), lt-ltb _ _ (are .object))
 
 -- what the test of the order says
 pub above : (x y : meant.Triple) → isAbove (inCode x) (inCode y) ≡ true → Above x y

@@ -7,6 +7,20 @@ use lib.ListN.{getD}
 abbrev pub base : ℕ
 base = 256
 
+-- how many numbers two bytes can be, and four
+abbrev pub twoBytes : ℕ
+twoBytes = base * base
+
+abbrev pub fourBytes : ℕ
+fourBytes = twoBytes * twoBytes
+
 -- the two bytes at a place, high byte first
 unfoldable pub number16 : List ℕ → ℕ → ℕ
 number16 s at = getD s at 0 * base + getD s (at + 1) 0
+
+-- the four bytes at a place, and the eight
+unfoldable pub number32 : List ℕ → ℕ → ℕ
+number32 s at = number16 s at * twoBytes + number16 s (at + 2)
+
+unfoldable pub number64 : List ℕ → ℕ → ℕ
+number64 s at = number32 s at * fourBytes + number32 s (at + 4)

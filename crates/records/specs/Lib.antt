@@ -2,6 +2,7 @@
 pub mod Refusals
 pub mod Bytes
 pub mod Sites
+pub mod Plain
 pub mod Reader
 pub mod Rules
 pub mod First

@@ -1,6 +1,6 @@
 -- A site read from its bytes, record by record (document 01, "Records" and "Numbered refusals").
 -- The tests at a record stand in the document's order, and the first that holds refuses it.
-use Prim.Native.Nat.{ℕ, zero, suc, _+_, _*_, _-_, _<_, _≤_}
+use Prim.Native.Nat.{ℕ, zero, suc, _+_, _*_, _-_, _/_, _<_, _≤_}
 use mathlib.Core.Path.{_≡_}
 use mathlib.Core.List.{List, [], _∷_, _++_}
 use mathlib.Core.Bool.{Bool, true, cond, not, _&&_}
@@ -88,6 +88,11 @@ pub data SiteRead (s : List ℕ) : ℕ → SiteAnswer → Type 0 where
 -- the answer to reading all of it: so many triples, or the first refusal
 abbrev pub Checked : List ℕ → SiteAnswer → Type 0
 Checked s answer = SiteRead s 0 answer
+
+-- a record begins at a place, and what is answered to reading on from there is answered to the site
+pub record Begun (s : List ℕ) (at : ℕ) : Type 0 where
+  pub place : at / tripleWidth * tripleWidth ≡ at
+  pub rest : (answer : SiteAnswer) → SiteRead s (at / tripleWidth) answer → Checked s answer
 
 -- the answer where reading stops after k triples; at a triple it does not stop
 abbrev pub finished : SiteRecord → ℕ → SiteAnswer

@@ -1,15 +1,22 @@
-// Site records: one triple each; the reader that hands them out; and a whole site checked through it.
+// Site records: one triple each; the reader that hands them out; and a whole site checked, through it from where it is not plainly sound.
 // `site_record` decides what stands at a place. The reader only keeps the bytes and the place, and its functions are proved by hand.
 ghost use mathlib.Core.Path.{_≡_};
 ghost use Prim.Native.Nat.{_+_, _*_, _-_, _<_, _≤_};
+ghost use mathlib.Core.Bool.{true};
 ghost use lib.ListN.{length};
-ghost use Rattle.records.specs.Sites.{tripleWidth, tripleOf, termAt, inCode, allTerms, isAbove, inOrder, denial, siteRecordAt, finished, Checked};
+ghost use Rattle.meaning.specs.Limits.{triples};
+ghost use Rattle.records.specs.Sites.{tripleWidth, tripleOf, termAt, inCode, allTerms, isAbove, inOrder, denial, siteRecordAt, finished, Checked, Begun};
+ghost use Rattle.records.specs.Plain.{Plain};
 ghost use Rattle.records.specs.Reader.{handed, standing, Hands};
 use crate::Reason;
 use crate::Refusal;
 use crate::TRIPLES;
 use crate::Triple;
+use crate::bytes::BASE;
+use crate::bytes::FOUR_BYTES;
+use crate::bytes::TWO_BYTES;
 use crate::bytes::byte_at;
+use crate::bytes::eight_at;
 use crate::bytes::is_term;
 use crate::bytes::number_at;
 
@@ -223,11 +230,62 @@ fn finish(got: SiteRecord, count: usize) -> SiteAnswer
     }
 }
 
-// All of a site: how many triples it has, or its first refusal.
+// The eight bytes of a record and the next one's kind show it sound: both kinds are a triple's, the high bytes of its terms are 0,
+// and the number is above that of the record before. In this order the compiler makes one test of the first four.
+fn is_plain(eight: usize, before: usize) -> bool
+    ensures { λ yes. ⌜ (yes ≡ true → Plain eight × (before < eight)) ⌝ }
+{
+    if eight % BASE != TRIPLE_KIND as usize {
+        return false;
+    }
+    if eight / TWO_BYTES % BASE != 0 {
+        return false;
+    }
+    if eight / FOUR_BYTES % BASE != 0 {
+        return false;
+    }
+    if eight / FOUR_BYTES / TWO_BYTES != TRIPLE_KIND as usize * BASE {
+        return false;
+    }
+    before < eight
+}
+
+// Where the last whole record begins, of as many as are allowed: a record before it has eight bytes.
+fn last_place(site: &[u8]) -> usize
+    ensures { λ r. ⌜ (r ≤ length (now (site .entry)) - tripleWidth) × (r < triples * tripleWidth) ⌝ }
+{
+    if site.len() < TRIPLE_WIDTH {
+        return 0;
+    }
+    if TRIPLES * TRIPLE_WIDTH < site.len() {
+        return (TRIPLES - 1) * TRIPLE_WIDTH;
+    }
+    site.len() - TRIPLE_WIDTH
+}
+
+// The place up to which every record is plainly sound; the last is left to the reader.
+fn plain_until(site: &[u8]) -> usize
+    ensures { λ r. ⌜ Begun (now (site .entry)) r ⌝ }
+{
+    let last = last_place(site);
+    let mut at: usize = 0;
+    let mut before: usize = 0;
+    while at < last {
+        let eight = eight_at(site, at);
+        if !is_plain(eight, before) {
+            return at;
+        }
+        before = eight;
+        at += TRIPLE_WIDTH;
+    }
+    at
+}
+
+// All of a site: how many triples it has, or its first refusal. The reader begins where the records are not plainly sound.
 pub fn check_site(site: &[u8]) -> SiteAnswer
     ensures { λ r. ⌜ Checked (now (site .entry)) r ⌝ }
 {
-    let mut at: usize = 0;
+    let mut at = plain_until(site);
     loop {
         let step = read_at(site, at);
         let found = step.found;

@@ -6,9 +6,9 @@ use Rattle.meaning.specs.Limits.{records}
 use Rattle.records.specs.Rules.{recOf}
 use Rattle.fewest.specs.Offer.{view}
 use Rattle.asked.specs.Serve.{TakenUp}
+use Rattle.asked.specs.Seek.{Whole}
 use Rattle.fewest.proofs.Keeping.{threads-kept}
-use Rattle.asked.proofs.Serving.{aside-none, waits-marked}
-use Rattle.asked.proofs.Chasing.{chased-aside, one-chased}
+use Rattle.asked.proofs.Chasing.{chased-none, one-chased}
 use Rattle.asked.proofs.chase.ask_one.Statement.{statement}
 use Rattle.asked.proofs.chase.ask_one.Tie as tie
 
@@ -27,7 +27,7 @@ unfolding records
 cast-operand c = let p = c .before .before .before .before .before .before .before .before .before .before .before .before .pre in let small = p .0 .firsts _ (p .4) in omega arith
 
 ask-on-requires : tie.Need-ask-on-requires
-unfolding view
+unfolding view Whole
 ask-on-requires c κs =
     let x = c .before .before .before .before .before .before .before .before .before .before .before .before .before .before in
     let p = x .pre in
@@ -37,14 +37,14 @@ ask-on-requires c κs =
       ready .good,
       p .1,
       ready .climbs,
-      rw (taken .same) (p .2),
+      taken .long ∙ p .2,
       p .3,
       omega arith,
       p .5,
       rw (c .before .before .before .record-of .ensures) (ready .sits _ (p .4)),
-      ready .firsts _ (p .4),
+      omega (arith, ready .firsts _ (p .4)),
       threads-kept (ready .good) (taken .below) (p .6),
-      rw (taken .same) (waits-marked (x .args .asked .now) _ (taken .waited (c .before .before .before .before .if1 .taken))),
+      rw (taken .same) (taken .waited (c .before .before .before .before .if1 .taken) .marked),
     )
 
 same-length : tie.Need-same-length
@@ -60,7 +60,7 @@ returns c =
     let ready = p .0 in
     let few = ready .few in
     let (asked, kept) = c .before .before .before .before .ask-on .ensures in
-    one-chased (c .before .before .before .before .before .before .before .before .record-of .result) (p .2) (omega arith) (p .5) (rw (← ready .counted) (p .4)) (ap recOf (c .before .before .before .before .before .before .before .before .record-of .ensures) ∙ ready .reads _ (p .4))
+    one-chased (c .before .before .before .before .before .before .before .before .record-of .result) (omega arith) (p .5) (rw (← ready .counted) (p .4)) (ap recOf (c .before .before .before .before .before .before .before .before .record-of .ensures) ∙ ready .reads _ (p .4))
     (subst (TakenUp _ _ _ _) (c .before .before .before .before .before .before .before .before .before .if1 .taken) (c .before .before .before .before .before .before .before .before .before .before .before .before .take-up .ensures)) asked kept
 
 same-length-3 : tie.Need-same-length-3
@@ -70,7 +70,7 @@ returns-2 : tie.Need-returns-2
 returns-2 c =
     let taken = c .before .before .before .take-up .ensures in
     let same = taken .left (c .if1 .left) in
-    (rw same (chased-aside (aside-none _)), taken .served)
+    (rw same chased-none, taken .served)
 
 pub ask-one-spec : {M : Type 1} → statement M
 ask-one-spec =

@@ -1,54 +1,54 @@
--- `asked::chase::pick` meets its contract: the queue's term, whose cell stands behind the threads, or what is left over.
-use native.Mathlib.Omega.{arith}
+-- `asked::chase::pick` meets its contract: at the head of the queue, or what is left over.
 use mathlib.Core.Logic.{inl, inr}
-use Rattle.meaning.specs.Limits.{terms, triples}
-use Rattle.fewest.proofs.Lows.{length-lows}
+use native.Mathlib.Omega.{arith}
 use borrow.Author.Needs.{needs}
-use Rattle.asked.specs.Seek.{Whole}
-use Rattle.asked.proofs.Serving.{aside-none, put-aside}
+use borrow.Author.Tests.{not-false}
+use Rattle.meaning.specs.Limits.{terms}
+use Rattle.fewest.proofs.Tells.{told}
 use Rattle.asked.proofs.chase.pick.Statement.{statement}
 use Rattle.asked.proofs.chase.pick.Tie as tie
+
+goes-on-requires : tie.Need-goes-on-requires
+goes-on-requires c κs = search needs
+
+left-over-requires : tie.Need-left-over-requires
+left-over-requires c κs = search needs
+
+returns : tie.Need-returns
+returns c = let left = c .left-over .ensures in record { none = left .none; one = λ h. inr (left .one h) }
 
 queued-requires : tie.Need-queued-requires
 queued-requires c κs = search needs
 
-add-put-cell : tie.Need-add-put-cell
-add-put-cell c = omega arith
+lowest-requires : tie.Need-lowest-requires
+lowest-requires c κs = search needs
 
-put-cell-requires : tie.Need-put-cell-requires
-put-cell-requires c κs = search needs
-
-same-length : tie.Need-same-length
-same-length c = search needs
-
-returns : tie.Need-returns
-unfolding terms triples
-returns c =
-    record {
-      aside = put-aside (c .before .before .put-cell .ensures) (omega arith);
-      none = λ h. absurd (omega arith);
-      one = λ h. inl (c .before .before .before .before .before .queued .ensures h);
-    }
-
-left-over-requires : tie.Need-left-over-requires
-unfolding Whole
-left-over-requires c κs = let x = c .before .before .before .before .before in (omega (arith, x .pre .0, length-lows (x .args .asked .now)), x .pre .1)
-
-same-length-2 : tie.Need-same-length-2
-same-length-2 c = search needs
+entry-requires : tie.Need-entry-requires
+entry-requires c κs = search needs
 
 returns-2 : tie.Need-returns-2
-returns-2 c = let left = c .left-over .ensures in record { aside = aside-none _; none = left .none; one = λ h. inr (left .one h) }
+unfolding terms
+returns-2 c =
+    let is = c .entry .ensures .0 in
+    let small = c .before .before .before .queued .ensures in
+    record { none = λ h. absurd (omega arith); one = λ _. inl (told (c .before .before .before .before .before .goes-on .ensures) (not-false _ (c .before .before .before .before .if1 .left))) }
+
+returns-3 : tie.Need-returns-3
+unfolding terms
+returns-3 c =
+    let small = c .before .before .queued .ensures in
+    let some = c .before .before .before .before .before .before .pre .1 in
+    record { none = λ h. absurd (omega arith); one = λ _. inl (told (c .before .before .before .before .goes-on .ensures) (not-false _ (c .before .before .before .if1 .left))) }
 
 pub pick-spec : {M : Type 1} → statement M
 pick-spec =
     tie.close
     (tie.spec
-    queued-requires
-    add-put-cell
-    put-cell-requires
-    same-length
-    returns
+    goes-on-requires
     left-over-requires
-    same-length-2
-    returns-2)
+    returns
+    queued-requires
+    lowest-requires
+    entry-requires
+    returns-2
+    returns-3)

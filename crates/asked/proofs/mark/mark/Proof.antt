@@ -1,53 +1,54 @@
--- `asked::mark::mark` meets its contract: the entry is marked already, or it is marked now.
-use mathlib.Core.Path.{refl}
+-- `asked::mark::mark` meets its contract: nothing is new, or what is new was marked.
 use native.Mathlib.Omega.{arith}
 use borrow.Author.Needs.{needs}
-use Rattle.fewest.proofs.Lows.{length-lows}
+use Rattle.meaning.specs.Limits.{terms, triples, records}
 use Rattle.asked.specs.Seek.{Whole}
-use Rattle.asked.proofs.Serving.{kept-none, mark-kept}
-use Rattle.asked.proofs.OneMark.{marked-old, marked-fresh}
+use Rattle.asked.proofs.WordBits.{or-small}
+use Rattle.asked.proofs.Serving.{set-marked, set-there}
 use Rattle.asked.proofs.mark.mark.Statement.{statement}
 use Rattle.asked.proofs.mark.mark.Tie as tie
 
-entry-requires : tie.Need-entry-requires
-entry-requires c κs = search needs
+mul-word : tie.Need-mul-word
+unfolding terms
+mul-word c = omega arith
 
-slice-read-x : tie.Need-slice-read-x
-unfolding Whole
-slice-read-x c = omega (arith, length-lows (c .before .before .before .args .asked .now))
+add-word : tie.Need-add-word
+unfolding terms
+add-word c = omega arith
 
-returns : tie.Need-returns
-returns c =
-    let b = c .before .before .before .before .args .asked .now in
-    (marked-old b _ _ (c .before .before .entry .ensures .0) (c .if1 .taken), kept-none b)
+word-requires : tie.Need-word-requires
+unfolding Whole terms triples records
+word-requires c κs = omega arith
 
-mul-asked : tie.Need-mul-asked
-mul-asked c = omega (arith, c .before .slice-known2 .given (c .before .before .entry .result))
-
-add-asked : tie.Need-add-asked
-add-asked c = omega (arith, c .before .slice-known2 .given (c .before .before .entry .result))
-
-slice-write-asked : tie.Need-slice-write-asked
-unfolding Whole
-slice-write-asked c = omega (arith, length-lows (c .before .before .before .before .args .asked .now))
+renew-requires : tie.Need-renew-requires
+renew-requires c κs =
+    let p = c .before .before .before .before .before .pre in
+    let small = c .before .before .word .ensures .1 in
+    (p .0, p .2, small, or-small small (p .1))
 
 same-length : tie.Need-same-length
 same-length c = search needs
 
+returns : tie.Need-returns
+unfolding terms triples
+returns c = set-marked (c .before .before .before .before .before .before .before .before .pre .2) (rw (← c .before .before .before .before .before .word .ensures .0) (c .before .before .renew .ensures))
+
+same-length-2 : tie.Need-same-length-2
+same-length-2 c = search needs
+
 returns-2 : tie.Need-returns-2
-returns-2 c =
-    let b = c .before .before .before .before .args .asked .now in
-    (marked-fresh b _ _ (c .before .before .entry .ensures .0) _ (omega arith) (c .if1 .left), mark-kept b _ _ (c .if1 .left) refl)
+unfolding terms triples
+returns-2 c = set-there (c .before .before .before .before .pre .2) (rw (← c .before .word .ensures .0) (c .if1 .left))
 
 pub mark-spec : {M : Type 1} → statement M
 mark-spec =
     tie.close
     (tie.spec
-    entry-requires
-    slice-read-x
-    returns
-    mul-asked
-    add-asked
-    slice-write-asked
+    mul-word
+    add-word
+    word-requires
+    renew-requires
     same-length
+    returns
+    same-length-2
     returns-2)

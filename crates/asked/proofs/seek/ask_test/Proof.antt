@@ -16,15 +16,17 @@ enum-told-2 c = search needs
 enum-told-3 : tie.Need-enum-told-3
 enum-told-3 c = search needs
 
--- a test is not the first record
-sub-mark : tie.Need-sub-mark
-sub-mark c =
+sub-only : tie.Need-sub-only
+sub-only c =
     let x = c .before .before .before .before in
     let h : 0 < x .args .r = rw (c .before .enum-told3 .given .1) at (x .pre .3) in
     omega arith
 
-mark-requires : tie.Need-mark-requires
-mark-requires c κs = search needs
+only-requires : tie.Need-only-requires
+only-requires c κs = search needs
+
+mark-on-requires : tie.Need-mark-on-requires
+mark-on-requires c κs = search needs
 
 returns : tie.Need-returns
 returns c = (if-left (rw (c .enum-told .given .1)), kept-none _)
@@ -37,8 +39,8 @@ same-length c = search needs
 
 returns-3 : tie.Need-returns-3
 returns-3 c =
-    let (marked, kept) = c .before .before .mark .ensures in
-    (if-marked (rw (c .before .before .before .before .enum-told3 .given .1)) marked, kept)
+    let marked = c .before .before .mark-on .ensures in
+    (if-marked (rw (c .before .before .before .before .before .enum-told3 .given .1)) (rw (c .before .before .before .only .ensures .0) at marked), marked .kept)
 
 pub ask-test-spec : {M : Type 1} → statement M
 ask-test-spec =
@@ -47,8 +49,9 @@ ask-test-spec =
     enum-told
     enum-told-2
     enum-told-3
-    sub-mark
-    mark-requires
+    sub-only
+    only-requires
+    mark-on-requires
     returns
     returns-2
     same-length

@@ -2,8 +2,7 @@
 use mathlib.Core.Path.{sym, _∙_}
 use borrow.Author.Needs.{needs}
 use Rattle.fewest.specs.Pairs.{pairs}
-use Rattle.asked.proofs.OneMark.{if-whole}
-use Rattle.asked.proofs.LowBits.{lows-bits}
+use Rattle.asked.specs.Seek.{Whole}
 use Rattle.asked.proofs.Serving.{kept-then}
 use Rattle.asked.proofs.Seeking.{pursue-barred, pursue-passes}
 use Rattle.asked.proofs.seek.pursue.Statement.{statement}
@@ -15,10 +14,9 @@ ask-test-requires c κs = search needs
 allows-requires : tie.Need-allows-requires
 allows-requires c κs = search needs
 
-follow-requires : tie.Need-follow-requires
-follow-requires c κs =
-    let x = c .before .before .before .before .before .before .before .before .before .before .before in
-    (x .pre .1, if-whole (lows-bits _) _ (c .before .before .before .before .before .before .ask-test .ensures .0) (x .pre .2), x .pre .3, x .pre .4, x .pre .7)
+reach-requires : tie.Need-reach-requires
+unfolding Whole
+reach-requires c κs = let p = c .before .before .before .before .before .before .before .before .before .before .before .pre in (c .before .before .before .before .before .before .ask-test .ensures .1 .long ∙ p .1, p .2, p .5, p .7)
 
 same-length : tie.Need-same-length
 same-length c = search needs
@@ -30,9 +28,9 @@ returns : tie.Need-returns
 returns c =
     let x = c .before .before .before .before .before .before .before .before .before .before .before .before .before .before .before .before in
     let (tested, kept) = c .before .before .before .before .before .before .before .before .before .before .before .ask-test .ensures in
-    let (followed, more) = c .before .before .before .before .follow .ensures in (
-      pursue-passes (pairs (x .args .numbers .now)) (x .args .label) (x .pre .2) (lows-bits _) (x .pre .4) (x .pre .6) tested
-          (sym (c .before .before .before .before .before .before .before .before .allows .ensures) ∙ c .before .before .before .before .before .before .before .if1 .taken) followed,
+    let (followed, more) = c .before .before .before .before .reach .ensures in (
+      λ up role onward. pursue-passes (pairs (x .args .numbers .now)) (x .args .label) (x .pre .3) (x .pre .6) tested
+          (sym (c .before .before .before .before .before .before .before .before .allows .ensures) ∙ c .before .before .before .before .before .before .before .if1 .taken) (followed up role _ onward),
       kept-then kept more,
     )
 
@@ -43,8 +41,7 @@ returns-2 : tie.Need-returns-2
 returns-2 c =
     let x = c .before .before .before .before .before .before .before .before .before in
     let (tested, kept) = c .before .before .before .before .ask-test .ensures in (
-      pursue-barred (pairs (x .args .numbers .now)) (x .args .label) (x .pre .2) (lows-bits _) (x .pre .4) (x .pre .6) tested
-          (sym (c .before .allows .ensures) ∙ c .if1 .left),
+      λ up role onward. pursue-barred (pairs (x .args .numbers .now)) (x .args .label) (x .pre .3) (x .pre .6) tested (sym (c .before .allows .ensures) ∙ c .if1 .left),
       kept,
     )
 
@@ -54,7 +51,7 @@ pursue-spec =
     (tie.spec
     ask-test-requires
     allows-requires
-    follow-requires
+    reach-requires
     same-length
     same-length-2
     returns

@@ -16,6 +16,9 @@ returns c =
 add-wide : tie.Need-add-wide
 add-wide c = search needs
 
+add-wide-2 : tie.Need-add-wide-2
+add-wide-2 c = search needs
+
 shared-slice-read-wide : tie.Need-shared-slice-read-wide
 shared-slice-read-wide c = search needs
 
@@ -24,9 +27,6 @@ wide-requires c κs = search needs
 
 mul-result : tie.Need-mul-result
 mul-result c = search needs
-
-add-wide-2 : tie.Need-add-wide-2
-add-wide-2 c = search needs
 
 add-wide-3 : tie.Need-add-wide-3
 add-wide-3 c = search needs
@@ -55,10 +55,10 @@ cell-spec =
     (tie.spec
     returns
     add-wide
+    add-wide-2
     shared-slice-read-wide
     wide-requires
     mul-result
-    add-wide-2
     add-wide-3
     shared-slice-read-wide-2
     wide-requires-2

@@ -43,8 +43,8 @@ cast-operand : tie.Need-cast-operand Inv-loop μ-loop
 unfolding records
 cast-operand c =
     let turn = c .before .before in
-    let small = turn .before .before .before .before .before .before .pre .0 .firsts (turn .before .loop .r) (turn .loop-test .taken) in
-    omega arith
+    let ready = turn .before .before .before .before .before .before .pre .0 in
+    omega (arith, ready .firsts (turn .before .loop .r) (turn .loop-test .taken))
 
 sweep-record-requires : tie.Need-sweep-record-requires Inv-loop μ-loop
 unfolding Full
@@ -58,7 +58,7 @@ sweep-record-requires c κs =
       ready .climbs,
       omega arith,
       rw (c .before .before .record-of .ensures) (ready .sits (at .r) (turn .loop-test .taken)),
-      ready .firsts (at .r) (turn .loop-test .taken),
+      omega (arith, ready .firsts (at .r) (turn .loop-test .taken)),
       threads,
     )
 

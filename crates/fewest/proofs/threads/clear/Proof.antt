@@ -13,17 +13,17 @@ use borrow.Author.Needs.{needs}
 use Rattle.fewest.proofs.threads.clear.Statement.{statement}
 use Rattle.fewest.proofs.threads.clear.Tie as tie
 
-passed : (b : List ℕ) (i : ℕ) → i < length b → ((j : ℕ) → j < i → getD b j 0 ≡ 252) → (j : ℕ) → j < i + 1 → getD (set b i 252) j 0 ≡ 252
+passed : (b : List ℕ) (i : ℕ) → i < length b → ((j : ℕ) → j < i → getD b j 0 ≡ 255) → (j : ℕ) → j < i + 1 → getD (set b i 255) j 0 ≡ 255
 passed b i h old j l = elim (ℕ-discrete j i) [
-  | yes e ↦ rw e (getD-set-same b i 252 0 h)
-  | no e ↦ getD-set-other b i j 252 0 e ∙ old j (omega arith)
+  | yes e ↦ rw e (getD-set-same b i 255 0 h)
+  | no e ↦ getD-set-other b i j 255 0 e ∙ old j (omega arith)
 ]
 
-blank : (b : List ℕ) → ((j : ℕ) → j < length b → getD b j 0 ≡ 252) → Blank b
+blank : (b : List ℕ) → ((j : ℕ) → j < length b → getD b j 0 ≡ 255) → Blank b
 blank b all i h = rw (cells-at b i h, all (i + i) (omega arith), all (i + i + 1) h)
 
 abbrev Inv-loop : tie.InvT-loop
-Inv-loop scratch₀ i₀ scratch i = (i ≤ length scratch) × (length scratch ≡ length scratch₀) × ((j : ℕ) → j < i → getD scratch j 0 ≡ 252)
+Inv-loop scratch₀ i₀ scratch i = (i ≤ length scratch) × (length scratch ≡ length scratch₀) × ((j : ℕ) → j < i → getD scratch j 0 ≡ 255)
 
 abbrev μ-loop : tie.MeasureT-loop
 μ-loop scratch₀ i₀ scratch i = length scratch - i

@@ -15,13 +15,13 @@ term-at-requires-2 c κs = search needs
 term-at-requires-3 : tie.Need-term-at-requires-3
 term-at-requires-3 c κs = search needs
 
-add-put-new : tie.Need-add-put-new
+add-put-cell : tie.Need-add-put-cell
 unfolding terms
-add-put-new c = omega (arith, part-terms (c .before .before .before .before .before .before .pre .0) .subject, c .before .before .before .term-at .ensures)
+add-put-cell c = omega (arith, part-terms (c .before .before .before .before .before .before .pre .0) .subject, c .before .before .before .term-at .ensures)
 
-put-new-requires : tie.Need-put-new-requires
+put-cell-requires : tie.Need-put-cell-requires
 unfolding terms triples records
-put-new-requires c κs =
+put-cell-requires c κs =
     let ((n, good, here), long) = c .before .before .before .before .before .before .pre in
     let small = part-terms (n, good, here) .subject in
     let read = c .before .before .before .term-at .ensures in
@@ -64,13 +64,13 @@ returns : tie.Need-returns
 unfolding terms triples
 returns c =
     let after-head = c .before .before .before .before .before .before in
-    let after-put-new = after-head .before .before .before .before in
-    let read = after-put-new .before .before in
+    let after-put-cell = after-head .before .before .before .before in
+    let read = after-put-cell .before .before in
     let start = read .before .before .before .before .before in
     λ n good here old.
     threads-one (start .args .site .now) (start .args .scratch .now) _ good here (start .pre .1)
     (parts-own _ good here (read .before .before .term-at .ensures) (read .before .term-at2 .ensures) (read .term-at3 .ensures))
-    (after-put-new .put-new .ensures)
+    (after-put-cell .put-cell .ensures)
     (after-head .head .ensures)
     (c .before .before .head2 .ensures)
     old
@@ -82,8 +82,8 @@ thread-one-spec =
     term-at-requires
     term-at-requires-2
     term-at-requires-3
-    add-put-new
-    put-new-requires
+    add-put-cell
+    put-cell-requires
     add-head
     add-head-2
     head-requires

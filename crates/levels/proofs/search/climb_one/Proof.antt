@@ -25,8 +25,8 @@ element-copy-out-operand c =
 cast-operand : tie.Need-cast-operand
 unfolding records
 cast-operand c =
-    let small = c .before .before .before .before .before .before .before .pre .0 .firsts _ (c .before .before .if1 .left) in
-    omega arith
+    let ready = c .before .before .before .before .before .before .before .pre .0 in
+    omega (arith, ready .firsts _ (c .before .before .if1 .left))
 
 finished-by-requires : tie.Need-finished-by-requires
 finished-by-requires c κs = search needs
@@ -57,7 +57,7 @@ column-requires c κs =
       omega arith,
       term,
       rw (after-record-of .record-of .ensures) (ready .sits _ here),
-      ready .firsts _ here,
+      omega (arith, ready .firsts _ here),
     )
 
 same-length : tie.Need-same-length

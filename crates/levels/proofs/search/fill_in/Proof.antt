@@ -36,7 +36,7 @@ cast-operand : tie.Need-cast-operand
 unfolding records
 cast-operand c =
     let else-1 = c .before .before .before .before .before in
-    let small = else-1 .before .before .before .before .pre .0 .firsts _ (else-1 .if1 .left) in omega arith
+    let ready = else-1 .before .before .before .before .pre .0 in omega (arith, ready .firsts _ (else-1 .if1 .left))
 
 column-requires : tie.Need-column-requires
 column-requires c κs =
@@ -45,7 +45,7 @@ column-requires c κs =
     let (ready, full, term) = else-1 .before .before .before .before .pre in
     let here = else-1 .if1 .left in
     let few = ready .few in
-    (ready .good, full, ready .climbs, omega arith, term, rw (after-record-of .record-of .ensures) (ready .sits _ here), ready .firsts _ here)
+    (ready .good, full, ready .climbs, omega arith, term, rw (after-record-of .record-of .ensures) (ready .sits _ here), omega (arith, ready .firsts _ here))
 
 same-length-2 : tie.Need-same-length-2
 same-length-2 c = search needs

@@ -6,18 +6,18 @@ use native.Mathlib.Omega.{arith}
 use Rattle.levels.proofs.search.note.Statement.{statement}
 use Rattle.levels.proofs.search.note.Tie as tie
 
-mul-set-at : tie.Need-mul-set-at
-mul-set-at c = search needs
+mul-cell : tie.Need-mul-cell
+mul-cell c = search needs
 
-add-set-at : tie.Need-add-set-at
-add-set-at c = search needs
+add-cell : tie.Need-add-cell
+add-cell c = search needs
 
-add-set-at-2 : tie.Need-add-set-at-2
+add-cell-2 : tie.Need-add-cell-2
 unfolding terms
-add-set-at-2 c = omega (arith, c .before .before .pre)
+add-cell-2 c = omega (arith, c .before .before .pre)
 
-set-at-requires : tie.Need-set-at-requires
-set-at-requires c κs = search needs
+cell-requires : tie.Need-cell-requires
+cell-requires c κs = search needs
 
 mul-put-set : tie.Need-mul-put-set
 mul-put-set c = search needs
@@ -74,10 +74,10 @@ pub note-spec : {M : Type 1} → statement M
 note-spec =
     tie.close
     (tie.spec
-    mul-set-at
-    add-set-at
-    add-set-at-2
-    set-at-requires
+    mul-cell
+    add-cell
+    add-cell-2
+    cell-requires
     mul-put-set
     add-put-set
     add-put-set-2

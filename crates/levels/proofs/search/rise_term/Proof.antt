@@ -11,17 +11,17 @@ use Rattle.levels.proofs.search.rise_term.Tie as tie
 returns : tie.Need-returns
 returns c = levelled-none
 
-mul-set-at : tie.Need-mul-set-at
-mul-set-at c = search needs
+mul-cell : tie.Need-mul-cell
+mul-cell c = search needs
 
-add-set-at : tie.Need-add-set-at
-add-set-at c = search needs
+add-cell : tie.Need-add-cell
+add-cell c = search needs
 
-add-set-at-2 : tie.Need-add-set-at-2
-add-set-at-2 c = search needs
+add-cell-2 : tie.Need-add-cell-2
+add-cell-2 c = search needs
 
-set-at-requires : tie.Need-set-at-requires
-set-at-requires c κs = search needs
+cell-requires : tie.Need-cell-requires
+cell-requires c κs = search needs
 
 witness-requires : tie.Need-witness-requires
 witness-requires c κs = search needs
@@ -33,11 +33,11 @@ rise-requires c κs =
     let pre = else-1 .before .before .before .before .before .pre in
     (pre .0, pre .1, else-1 .if1 .left)
 
-add-set-at-3 : tie.Need-add-set-at-3
-add-set-at-3 c = search needs
+add-cell-3 : tie.Need-add-cell-3
+add-cell-3 c = search needs
 
-set-at-requires-2 : tie.Need-set-at-requires-2
-set-at-requires-2 c κs = search needs
+cell-requires-2 : tie.Need-cell-requires-2
+cell-requires-2 c κs = search needs
 
 less-requires : tie.Need-less-requires
 less-requires c κs = search needs
@@ -87,14 +87,14 @@ rise-term-spec =
     tie.close
     (tie.spec
     returns
-    mul-set-at
-    add-set-at
-    add-set-at-2
-    set-at-requires
+    mul-cell
+    add-cell
+    add-cell-2
+    cell-requires
     witness-requires
     rise-requires
-    add-set-at-3
-    set-at-requires-2
+    add-cell-3
+    cell-requires-2
     less-requires
     possible-requires
     add-put-set

@@ -9,17 +9,17 @@ use Rattle.levels.proofs.search.take_term.Tie as tie
 returns : tie.Need-returns
 returns c = levelled-none
 
-mul-set-at : tie.Need-mul-set-at
-mul-set-at c = search needs
+mul-cell : tie.Need-mul-cell
+mul-cell c = search needs
 
-add-set-at : tie.Need-add-set-at
-add-set-at c = search needs
+add-cell : tie.Need-add-cell
+add-cell c = search needs
 
-add-set-at-2 : tie.Need-add-set-at-2
-add-set-at-2 c = search needs
+add-cell-2 : tie.Need-add-cell-2
+add-cell-2 c = search needs
 
-set-at-requires : tie.Need-set-at-requires
-set-at-requires c κs = search needs
+cell-requires : tie.Need-cell-requires
+cell-requires c κs = search needs
 
 mul-put-set : tie.Need-mul-put-set
 mul-put-set c = search needs
@@ -57,10 +57,10 @@ take-term-spec =
     tie.close
     (tie.spec
     returns
-    mul-set-at
-    add-set-at
-    add-set-at-2
-    set-at-requires
+    mul-cell
+    add-cell
+    add-cell-2
+    cell-requires
     mul-put-set
     add-put-set
     add-put-set-2

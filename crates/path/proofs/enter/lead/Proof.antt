@@ -32,7 +32,7 @@ inward-requires : tie.Need-inward-requires
 inward-requires c κs =
     let pre = c .before .before .before .before .before .before .pre in
     let ready = pre .0 .2 in
-    (ready .climbs, omega (arith, ready .few), ready .firsts _ (pre .1), rw (c .before .before .record-of .ensures) (ready .sits _ (pre .1)))
+    (ready .climbs, omega (arith, ready .few), omega (arith, ready .firsts _ (pre .1)), rw (c .before .before .record-of .ensures) (ready .sits _ (pre .1)))
 
 returns-2 : tie.Need-returns-2
 returns-2 c =
