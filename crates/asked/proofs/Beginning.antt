@@ -23,7 +23,7 @@ use Rattle.asked.specs.Serve.{markeds, NoneWaits, Kept, SetMarked}
 use Rattle.asked.specs.Seek.{Whole, Bits, MarkedOver}
 use Rattle.asked.specs.Chase.{Answered, Chased}
 use Rattle.asked.specs.Narrow.{Cleared}
-use Rattle.asked.proofs.WordBits.{same-views, length-questions, view-questions, word-four, bit-none, bit-own, bit-other}
+use Rattle.asked.proofs.WordBits.{same-views, length-questions, view-questions, no-word, bit-none, bit-own, bit-other}
 use Rattle.asked.proofs.Chasing.{answered-out}
 use Rattle.asked.proofs.Fair.{zeros}
 use Rattle.asked.proofs.Serving.{served-marked, mark-of}
@@ -51,7 +51,7 @@ module _ (n : ℕ) {b d : List ℕ} (cleared : Cleared n (records - n) b d) (fir
   pub no-marks : markeds d ≡ replicate (records * terms) 0
   unfolding terms triples records
   no-marks = same-views (markeds d) (replicate (records * terms) 0) (length-questions marks-at d) (length-replicate {A = ℕ} (records * terms) 0) λ r t h k.
-      let empty : mark-of d t ≡ 0 = word-four d (marks-at + size * t) ∙ (rw (none-there (marks-at + size * t + 3) (omega arith) (omega arith), none-there (marks-at + size * t + 2) (omega arith) (omega arith), none-there (marks-at + size * t + 1) (omega arith) (omega arith), none-there (marks-at + size * t) (omega arith) (omega arith))) in
+      let empty : mark-of d t ≡ 0 = no-word d (marks-at + size * t) (λ i from to. none-there i (omega arith) (omega arith)) in
       view-questions marks-at d r t h k ∙ ap (λ w. bit w r) empty ∙ bit-none r ∙ sym (no-view r t)
 
   pub threads-left : fewest.Kept b d

@@ -11,7 +11,7 @@ use lib.Bits.{block-half, block-odd}
 use lib.ListN.{getD}
 use lib.Pow.{high, shr-shr}
 use Rattle.records.specs.Bytes.{base}
-use Rattle.asked.specs.Words.{size, bit, holding, word}
+use Rattle.asked.specs.Words.{eight, size, bit, holding, word}
 
 -- a bit of a number is a bit of its half
 bit-half : (n k : ℕ) → bit n (suc k) ≡ bit (n / 2) k
@@ -30,21 +30,21 @@ bit-high n k h l small = ap (λ x. x % 2) (sym (shr-shr (h * 2 ^ n + l) n k) ∙
 
 -- Bit r of a number made of bytes is a bit of its byte r / 8.
 module _ (b : List ℕ) (small : (i : ℕ) → getD b i 0 < base) where
-  bit-holding : (n at r : ℕ) → r < 8 * n → bit (holding n b at) r ≡ bit (getD b (at + r / 8) 0) (r % 8)
+  bit-holding : (n at r : ℕ) → r < eight * n → bit (holding n b at) r ≡ bit (getD b (at + r / eight) 0) (r % eight)
   bit-holding zero at r h = absurd (omega arith)
-  bit-holding (suc n) at r h = elim (decLt r 8) [
+  bit-holding (suc n) at r h = elim (decLt r eight) [
     | yes k ↦
-        let byte : at ≡ at + r / 8 = omega arith in
-        let own : r ≡ r % 8 = omega arith in
-        bit-low r 8 (holding n b (suc at)) (getD b at 0) k ∙ ap (λ i. bit (getD b i 0) r) byte ∙ ap (λ x. bit (getD b (at + r / 8) 0) x) own
+        let byte : at ≡ at + r / eight = omega arith in
+        let own : r ≡ r % eight = omega arith in
+        bit-low r eight (holding n b (suc at)) (getD b at 0) k ∙ ap (λ i. bit (getD b i 0) r) byte ∙ ap (λ x. bit (getD b (at + r / eight) 0) x) own
     | no k ↦
-        let on : r ≡ 8 + (r - 8) = omega arith in
-        let byte : suc at + (r - 8) / 8 ≡ at + r / 8 = omega arith in
-        let own : (r - 8) % 8 ≡ r % 8 = omega arith in
-        ap (λ x. bit (holding (suc n) b at) x) on ∙ bit-high 8 (r - 8) (holding n b (suc at)) (getD b at 0) (small at)
-        ∙ bit-holding n (suc at) (r - 8) (omega arith) ∙ ap (λ i. bit (getD b i 0) ((r - 8) % 8)) byte ∙ ap (λ x. bit (getD b (at + r / 8) 0) x) own
+        let on : r ≡ eight + (r - eight) = omega arith in
+        let byte : suc at + (r - eight) / eight ≡ at + r / eight = omega arith in
+        let own : (r - eight) % eight ≡ r % eight = omega arith in
+        ap (λ x. bit (holding (suc n) b at) x) on ∙ bit-high eight (r - eight) (holding n b (suc at)) (getD b at 0) (small at)
+        ∙ bit-holding n (suc at) (r - eight) (omega arith) ∙ ap (λ i. bit (getD b i 0) ((r - eight) % eight)) byte ∙ ap (λ x. bit (getD b (at + r / eight) 0) x) own
   ]
 
-  pub bit-word : (at r : ℕ) → r < 8 * size → bit (word b at) r ≡ bit (getD b (at + r / 8) 0) (r % 8)
+  pub bit-word : (at r : ℕ) → r < eight * size → bit (word b at) r ≡ bit (getD b (at + r / eight) 0) (r % eight)
   unfolding word
   bit-word at r h = bit-holding size at r h

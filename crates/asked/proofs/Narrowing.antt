@@ -13,10 +13,10 @@ use borrow.Rule.Slice.PartMut.{midOf, postOf, putMid, same-len-mid}
 use Rattle.meaning.specs.Limits.{terms, records}
 use Rattle.records.specs.Bytes.{base}
 use Rattle.fewest.specs.Offer.{place, view}
-use Rattle.asked.specs.Words.{size, bit, marks-at, waits-at}
+use Rattle.asked.specs.Words.{eight, size, bit, marks-at, waits-at}
 use Rattle.asked.specs.Serve.{markeds}
 use Rattle.asked.specs.Seek.{Whole}
-use Rattle.asked.specs.Narrow.{eight, Unmarked, Written, RowsWritten, byte, LaidOutTo, RowsOut, Cleared}
+use Rattle.asked.specs.Narrow.{Unmarked, Written, RowsWritten, byte, LaidOutTo, RowsOut, Cleared}
 use Rattle.asked.proofs.WordBits.{same-views, length-questions, view-questions}
 use Rattle.asked.proofs.ByteBits.{bit-word}
 

@@ -21,7 +21,7 @@ use Rattle.asked.specs.Mark.{blank}
 use Rattle.asked.specs.Serve.{markeds, waitings, Waits, serveds, Fewer, Kept, Aside, Renewed, SetMarked, OneServed, TakenUp, most, Picked}
 use Rattle.asked.specs.Seek.{Bits}
 use Rattle.asked.proofs.Marking.{blank-mark}
-use Rattle.asked.proofs.WordBits.{length-listed, getD-listed, same-views, length-questions, view-questions, same-word, word-others, bit-or, bit-and, bit-xor, bit-own, bit-other, has-one, has-none, questions-bits}
+use Rattle.asked.proofs.WordBits.{length-listed, getD-listed, same-views, length-questions, view-questions, same-word, words-apart, word-others, bit-or, bit-and, bit-xor, bit-own, bit-other, has-one, has-none, questions-bits}
 
 -- the word of term t
 abbrev pub mark-of : List ℕ → ℕ → ℕ
@@ -122,17 +122,11 @@ renewed {t} {old} {all} {b} {c} {d} h one two = record {
   marked = word-others two (marks-at + size * t) (inl (omega arith)) ∙ one .stored;
   waits = λ r. ap (λ w. bit w r) (two .stored) ∙ bit-or (wait-of c t) (bitXor all old) r ∙ (rw (word-others one (waits-at + size * t) (inr (omega arith))));
   others = λ u k apart. (
-    word-others two (marks-at + size * u) (inl (omega arith)) ∙ word-others one (marks-at + size * u) (beside u apart),
-    word-others two (waits-at + size * u) (aside u apart) ∙ word-others one (waits-at + size * u) (inr (omega arith)),
+    word-others two (marks-at + size * u) (inl (omega arith)) ∙ word-others one (marks-at + size * u) (words-apart marks-at apart),
+    word-others two (waits-at + size * u) (words-apart waits-at apart) ∙ word-others one (waits-at + size * u) (inr (omega arith)),
   );
   below = kept-bytes (two .long ∙ one .long) (λ i k. two .others i (inl (omega arith)) ∙ one .others i (inl (omega arith))) .same;
 }
-  where
-    beside : (u : ℕ) → u ≢ t → (marks-at + size * u + size ≤ marks-at + size * t) ⊎ (marks-at + size * t + size ≤ marks-at + size * u)
-    beside u apart = elim (decLt u t) [ yes l ↦ inl (omega arith) | no l ↦ inr (omega arith) ]
-
-    aside : (u : ℕ) → u ≢ t → (waits-at + size * u + size ≤ waits-at + size * t) ⊎ (waits-at + size * t + size ≤ waits-at + size * u)
-    aside u apart = elim (decLt u t) [ yes l ↦ inl (omega arith) | no l ↦ inr (omega arith) ]
 
 -- A set was marked at t.
 module _ {set t : ℕ} {b : List ℕ} (h : t < terms) where
@@ -189,7 +183,7 @@ module _ (b : List ℕ) {r t : ℕ} (row : r < records) (h : t < terms) where
 
       -- the word of another term is not touched
       beside : (u : ℕ) → u ≢ t → wait-of d u ≡ wait-of b u
-      beside u apart = word-others put (waits-at + size * u) (elim (decLt u t) [ yes l ↦ inl (omega arith) | no l ↦ inr (omega arith) ])
+      beside u apart = word-others put (waits-at + size * u) (words-apart waits-at apart)
 
       -- nor is another record's bit
       there : (q : ℕ) → q ≢ r → bit (wait-of d t) q ≡ bit (wait-of b t) q

@@ -15,20 +15,13 @@ use Rattle.fewest.specs.Offer.{place}
 use Rattle.fewest.specs.Tells.{Tells, holds, fails}
 use Rattle.asked.specs.Words.{size, waits-at}
 use Rattle.asked.specs.Serve.{Waits, NoneWaits}
-use Rattle.asked.proofs.WordBits.{bit-and, bit-none, has-one, has-none, word-four}
+use Rattle.asked.proofs.WordBits.{bit-and, bit-none, has-one, has-none, place-split, no-word}
 use Rattle.asked.proofs.Serving.{mark-of, wait-of, waits-by, waits-bits}
-
--- a question's place, by its record and its term
-pub place-split : (i : ℕ) → place (i / terms) (i % terms) ≡ i
-unfolding terms
-place-split i = omega arith
 
 -- Where no byte of the words is above 0, each is the empty set, and nothing waits.
 module _ (b : List ℕ) (none : (j : ℕ) → waits-at ≤ j → j < waits-at + size * terms → getD b j 0 ≤ 0) where
   wait-none : (t : ℕ) → t < terms → wait-of b t ≡ 0
-  wait-none t h =
-      let at = waits-at + size * t in
-      omega (arith, word-four b at, none at (omega arith) (omega arith), none (at + 1) (omega arith) (omega arith), none (at + 2) (omega arith) (omega arith), none (at + 3) (omega arith) (omega arith))
+  wait-none t h = no-word b (waits-at + size * t) (λ i from to. omega (arith, none i (omega arith) (omega arith)))
 
   pub none-waits : NoneWaits b (records * terms)
   unfolding terms

@@ -16,7 +16,7 @@ use Rattle.meaning.specs.Limits.{terms, records}
 use Rattle.records.specs.Bytes.{base}
 use Rattle.fewest.specs.Offer.{place, view}
 use Rattle.fewest.proofs.Places.{place-below}
-use Rattle.asked.specs.Words.{size, sets, bit, word, WordPut, listed, questions}
+use Rattle.asked.specs.Words.{eight, size, sets, bit, word, WordPut, listed, questions}
 use Rattle.asked.specs.Seek.{Bits}
 
 -- The bits of what is joined, met or told apart.
@@ -74,14 +74,18 @@ getD-listed f zero i h = absurd (omega arith)
 getD-listed f (suc n) zero h = refl
 getD-listed f (suc n) (suc i) h = getD-listed (λ i. f (suc i)) n i (omega arith)
 
+-- a question's place, by its record and its term
+pub place-split : (i : ℕ) → place (i / terms) (i % terms) ≡ i
+unfolding terms
+place-split i = omega arith
+
 -- a list of so many entries has the values that it has at each record and term
 pub same-views : (l m : List ℕ) → length l ≡ records * terms → length m ≡ records * terms →
     ((r t : ℕ) → r < records → t < terms → view l r t ≡ view m r t) → l ≡ m
 unfolding view terms
 same-views l m p q same = ext-getD 0 l m (p ∙ sym q) λ i h.
-    let here : i ≡ place (i / terms) (i % terms) = omega arith in
     let e : getD l (place (i / terms) (i % terms)) 0 ≡ getD m (place (i / terms) (i % terms)) 0 = same (i / terms) (i % terms) (omega arith) (omega arith) in
-    ap (λ j. getD l j 0) here ∙ e ∙ sym (ap (λ j. getD m j 0) here)
+    rw (place-split i) at e
 
 module _ (at : ℕ) (b : List ℕ) where
   pub length-questions : length (questions at b) ≡ records * terms
@@ -110,6 +114,15 @@ same-word b d at same =
     let first : getD d at 0 ≡ getD b at 0 = rw zero-at at (same 0 (omega arith)) in
     omega (arith, word-four b at, word-four d at, first, same 1 (omega arith), same 2 (omega arith), same 3 (omega arith))
 
+-- Where its bytes are 0, it is the empty set.
+pub no-word : (b : List ℕ) (at : ℕ) → ((i : ℕ) → at ≤ i → i < at + size → getD b i 0 ≡ 0) → word b at ≡ 0
+no-word b at none =
+    omega (arith, word-four b at, none at (omega arith) (omega arith), none (at + 1) (omega arith) (omega arith), none (at + 2) (omega arith) (omega arith), none (at + 3) (omega arith) (omega arith))
+
+-- The words of two terms stand apart.
+pub words-apart : (at : ℕ) {u t : ℕ} → u ≢ t → (at + size * u + size ≤ at + size * t) ⊎ (at + size * t + size ≤ at + size * u)
+words-apart at {u} {t} apart = elim (decLt u t) [ yes l ↦ inl (omega arith) | no l ↦ inr (omega arith) ]
+
 -- Another word is as it was.
 pub word-others : {at set : ℕ} {b d : List ℕ} → WordPut at set b d → (i : ℕ) → (i + size ≤ at) ⊎ (at + size ≤ i) → word d i ≡ word b i
 word-others {at} {b = b} {d} put i (inl h) = same-word b d i (λ k l. put .others (i + k) (inl (omega arith)))
@@ -117,10 +130,10 @@ word-others {at} {b = b} {d} put i (inr h) = same-word b d i (λ k l. put .other
 
 -- Sets joined or told apart are sets.
 pub or-small : {a b : ℕ} → a < sets → b < sets → bitOr a b < sets
-or-small {a} {b} h k = or-lt 32 a b h k
+or-small {a} {b} h k = or-lt (eight * size) a b h k
 
 pub xor-small : {a b : ℕ} → a < sets → b < sets → bitXor a b < sets
-xor-small {a} {b} h k = xor-lt 32 a b h k
+xor-small {a} {b} h k = xor-lt (eight * size) a b h k
 
 -- Each question's entry is 0 or 1.
 pub questions-bits : (at : ℕ) (b : List ℕ) → Bits (questions at b)

@@ -6,12 +6,8 @@ use mathlib.Core.List.{List}
 use lib.ListN.{length, getD}
 use Rattle.meaning.specs.Limits.{terms, records}
 use Rattle.fewest.specs.Offer.{view}
-use Rattle.asked.specs.Words.{size, bit, marks-at, waits-at}
+use Rattle.asked.specs.Words.{eight, size, bit, marks-at, waits-at}
 use Rattle.asked.specs.Serve.{markeds}
-
--- so many records have their bits in one byte
-abbrev pub eight : ℕ
-eight = 8
 
 -- no question of the records from number n on is marked
 abbrev pub Unmarked : ℕ → List ℕ → Type 0

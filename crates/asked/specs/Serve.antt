@@ -53,7 +53,7 @@ pub record Kept (b b′ : List ℕ) : Type 0 where
   pub served : serveds b′ ≡ serveds b
   pub below : Below b b′
 
--- neither words nor threads were changed
+-- no mark was changed, no question is served that was not, and the threads are as they were
 pub record Aside (b b′ : List ℕ) : Type 0 where
   pub same : markeds b′ ≡ markeds b
   pub kept : Kept b b′
@@ -66,7 +66,7 @@ pub record Renewed (t old all : ℕ) (b b′ : List ℕ) : Type 0 where
   pub others : (u : ℕ) → u < terms → u ≢ t → (word b′ (marks-at + size * u) ≡ word b (marks-at + size * u)) × (word b′ (waits-at + size * u) ≡ word b (waits-at + size * u))
   pub below : Below b b′
 
--- The questions of a set of records at t are marked, and no other is; what is done is so kept.
+-- The questions of a set of records at t are marked now, and no other is; the same are served, and the threads are as they were.
 pub record SetMarked (set t : ℕ) (b b′ : List ℕ) : Type 0 where
   pub there : (r : ℕ) → r < records → view (markeds b′) r t ≡ max (view (markeds b) r t) (bit set r)
   pub others : (r u : ℕ) → r < records → u < terms → u ≢ t → view (markeds b′) r u ≡ view (markeds b) r u
@@ -86,7 +86,7 @@ pub record TakenUp (r t : ℕ) (b b′ : List ℕ) (took : Bool) : Type 0 where
   pub waited : took ≡ true → Waits b (place r t)
   pub left : took ≡ false → b′ ≡ b
 
--- how many terms may be queued in all
+-- so many turns the queue may give in all
 abbrev pub most : ℕ
 most = 4 * records * terms
 

@@ -9,12 +9,15 @@ use Rattle.meaning.specs.Limits.{terms, records}
 use Rattle.records.specs.Bytes.{base}
 use Rattle.fewest.specs.Threads.{free}
 
--- a word has so many bytes, and there are so many sets
+-- a byte has so many bits, a word so many bytes, and there are so many sets
+abbrev pub eight : ℕ
+eight = 8
+
 abbrev pub size : ℕ
 size = 4
 
 abbrev pub sets : ℕ
-sets = base * base * base * base
+sets = 2 ^ (eight * size)
 
 -- 1 where record r is in the set
 abbrev pub bit : ℕ → ℕ → ℕ

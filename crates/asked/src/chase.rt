@@ -3,7 +3,6 @@
 use crate::follow::After;
 use crate::follow::follow;
 use crate::mark::MOST;
-use crate::mark::SIZE;
 use crate::mark::WAITS;
 use crate::mark::mark;
 use crate::mark::queued;
@@ -11,6 +10,7 @@ use crate::mark::take_up;
 use crate::seek::pursue;
 use crate::seek::reach;
 use crate::wait::left_over;
+use crate::words::SIZE;
 use crate::words::only;
 use crate::words::word as set_at;
 use fewest::look::Parts;

@@ -1,5 +1,6 @@
 // Marks in the byte table, a set of records for each term, and in the table of ends where one is lent. A second set for each term
 // says which of its questions wait to be asked on.
+use crate::words::SIZE;
 use crate::words::only;
 use crate::words::put_word;
 use crate::words::word;
@@ -21,8 +22,6 @@ const RING: usize = TERMS + TERMS;
 pub const MARKS: usize = QUEUE + RING;
 
 pub const WAITS: usize = MARKS + SIZE * TERMS;
-
-pub const SIZE: usize = 4;
 
 // So many terms and one more are queued in all, whatever the hints say. What is left then still waits.
 pub const MOST: usize = 4 * RECORDS * TERMS;

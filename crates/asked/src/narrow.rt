@@ -1,8 +1,8 @@
 // The marks at the end: what stood as words, a set of records for each term, becomes rows, a byte for each question.
 // First each byte of the words gets a row of its own, where nothing waits any more, so that the compiler takes many terms at once.
 use crate::mark::MARKS;
-use crate::mark::SIZE;
 use crate::mark::WAITS;
+use crate::words::SIZE;
 use records::RECORDS;
 use records::TERMS;
 ghost use mathlib.Core.Path.{_≡_};

@@ -1,7 +1,7 @@
 // Whether a question waits: the look at the table that certifies that nothing asked for is unmarked.
 use crate::mark::MARKS;
-use crate::mark::SIZE;
 use crate::mark::WAITS;
+use crate::words::SIZE;
 use crate::words::only;
 use crate::words::word;
 use fewest::rows::greater;

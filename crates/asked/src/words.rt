@@ -8,6 +8,9 @@ ghost use lib.ListN.{length};
 ghost use Rattle.meaning.specs.Limits.{records};
 ghost use Rattle.asked.specs.Words.{size, sets, word, WordPut};
 
+// A word has so many bytes.
+pub const SIZE: usize = 4;
+
 // The set of this record alone.
 pub fn only(r: usize) -> usize
     requires { ⌜ r < records ⌝ }

@@ -13,7 +13,7 @@ use Rattle.asked.specs.Seek.{Whole}
 use Rattle.asked.specs.Chase.{Chased}
 use Rattle.asked.proofs.Marking.{marks-on-long, marks-on-bits}
 use Rattle.asked.proofs.Serving.{turn-falls}
-use Rattle.asked.proofs.Waiting.{place-split}
+use Rattle.asked.proofs.WordBits.{place-split}
 use Rattle.asked.proofs.Chasing.{chased-none, chased-then}
 use Rattle.asked.proofs.chase.chase.Statement.{statement}
 use Rattle.asked.proofs.chase.chase.Tie as tie

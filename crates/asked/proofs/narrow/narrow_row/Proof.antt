@@ -5,9 +5,9 @@ use mathlib.Core.Path.{refl, ap, _∙_}
 use native.Mathlib.Omega.{arith}
 use lib.Bits.{and-mask}
 use Rattle.meaning.specs.Limits.{terms, triples, records}
-use Rattle.asked.specs.Words.{bit}
+use Rattle.asked.specs.Words.{eight, bit}
 use Rattle.asked.specs.Seek.{Whole}
-use Rattle.asked.specs.Narrow.{eight, Written, held}
+use Rattle.asked.specs.Narrow.{Written, held}
 use Rattle.asked.proofs.Narrowing.{none-written, one-written, all-written}
 use Rattle.asked.proofs.narrow.narrow_row.Statement.{statement}
 use Rattle.asked.proofs.narrow.narrow_row.Tie as tie

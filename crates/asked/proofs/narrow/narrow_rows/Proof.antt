@@ -4,9 +4,9 @@ use Prim.Native.Nat.{_-_, _%_, _≤_}
 use mathlib.Core.Path.{refl, ap}
 use native.Mathlib.Omega.{arith}
 use Rattle.meaning.specs.Limits.{terms, triples, records}
-use Rattle.asked.specs.Words.{bit}
+use Rattle.asked.specs.Words.{eight, bit}
 use Rattle.asked.specs.Seek.{Whole}
-use Rattle.asked.specs.Narrow.{eight, RowsOut}
+use Rattle.asked.specs.Narrow.{RowsOut}
 use Rattle.asked.proofs.Narrowing.{no-row-written, row-written, all-rows-written}
 use Rattle.asked.proofs.narrow.narrow_rows.Statement.{statement}
 use Rattle.asked.proofs.narrow.narrow_rows.Tie as tie

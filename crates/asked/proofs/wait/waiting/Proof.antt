@@ -6,7 +6,7 @@ use borrow.Author.Count.{below-more}
 use Rattle.meaning.specs.Limits.{terms, records}
 use Rattle.fewest.proofs.Tells.{told, told-not}
 use Rattle.asked.specs.Serve.{Waits, NoneWaits}
-use Rattle.asked.proofs.Waiting.{place-split}
+use Rattle.asked.proofs.WordBits.{place-split}
 use Rattle.asked.proofs.wait.waiting.Statement.{statement}
 use Rattle.asked.proofs.wait.waiting.Tie as tie
 
