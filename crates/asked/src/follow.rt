@@ -9,7 +9,7 @@ use fewest::links::{AS_FIRST, AS_TEST, AS_WHOLE};
 use records::RECORDS;
 
 // The records that are asked next, and whether the whole rule is done.
-#[derive(Drop)]
+#[derive(Clone, Copy)]
 pub struct After {
     pub set: usize,
     pub home: bool,

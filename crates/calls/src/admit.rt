@@ -17,7 +17,7 @@ pub struct Query {
     pub end: usize,
 }
 
-#[derive(Drop)]
+#[derive(Clone, Copy)]
 pub enum Verdict {
     Ready(Query),
     Refused(Refusal),

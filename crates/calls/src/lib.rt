@@ -1,4 +1,6 @@
 // Decide, ends and starts on lent tables, and the ceiling: document 01's calls, for all inputs.
+#![tactic(auto)]
+
 use records::Refusal;
 
 pub mod admit; // admit.rt: what is refused before any table is touched
@@ -12,41 +14,41 @@ pub mod origins; // origins.rt: all starts
 pub mod ceiling; // ceiling.rt: the most that a figure can be
 
 // Yes or no, the work figure, and the path's steps (0 on no).
-#[derive(Drop)]
+#[derive(Clone, Copy)]
 pub struct Answer {
     pub yes: bool,
     pub figure: usize,
     pub steps: usize,
 }
 
-#[derive(Drop)]
+#[derive(Clone, Copy)]
 pub enum Decision {
     Answer(Answer),
     Refused(Refusal),
 }
 
 // How many ends, and the work figure.
-#[derive(Drop)]
+#[derive(Clone, Copy)]
 pub struct Found {
     pub ends: usize,
     pub figure: usize,
 }
 
-#[derive(Drop)]
+#[derive(Clone, Copy)]
 pub enum EndList {
     Found(Found),
     Refused(Refusal),
 }
 
 // How many starts.
-#[derive(Drop)]
+#[derive(Clone, Copy)]
 pub enum StartList {
     Found(usize),
     Refused(Refusal),
 }
 
 // The most that a figure can be.
-#[derive(Drop)]
+#[derive(Clone, Copy)]
 pub enum Limit {
     At(usize),
     Refused(Refusal),

@@ -70,8 +70,8 @@ bounded_full =
       ];
     }
 
--- The table has room below none for one step more than its length.
-pub room : records * terms + 1 < none
+-- the table has room below none for one step more than its length
+room : records * terms + 1 < none
 unfolding records terms none
 room = lit< tt
 

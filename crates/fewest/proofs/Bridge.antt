@@ -1,7 +1,7 @@
 -- From the arrays and the table that the loops know to the number table of document 01: lowering entries to what is
 -- offered keeps the table sound, and when nothing offered is lower it is closed. So it is the number table.
 use Prim.Native.Nat.{ℕ, ◌+◌, ◌*◌, ◌<◌, ◌≤◌}
-use mathlib.Core.Path.{◌≡◌, refl, sym, ◌∙◌}
+use mathlib.Core.Path.{◌≡◌, refl, ◌∙◌}
 use mathlib.Core.Logic.{⊎_elim}
 use mathlib.Core.List.{List, Memᴰ}
 use native.Mathlib.Omega.{arith}
@@ -9,10 +9,9 @@ use lib.ListN.{length, get_or, set, replicate, get_or-replicate}
 use Rattle.meaning.specs.Limits.{terms, records, none}
 use Rattle.meaning.specs.Site.{Site, Within}
 use Rattle.meaning.specs.Expression.{Rec, starring, Expr, step, tested, sequence, choice, star, last, Expression, Context, plug}
-use Rattle.meaning.specs.Fewest.{Goal, State, entered, Numbers}
+use Rattle.meaning.specs.Fewest.{Goal, Numbers}
 use Rattle.meaning.specs.Left.{left, Near, Sound, Closed}
 use Rattle.meaning.proofs.Exact.{exact}
-use Rattle.meaning.proofs.Moves.{move_reaches, among}
 use Rattle.meaning.proofs.Names.{node_below}
 use Rattle.meaning.proofs.Postfix.{expression_long}
 use Rattle.fewest.specs.Frame.{Links, Linked}
@@ -20,8 +19,8 @@ use Rattle.fewest.specs.Offer.{place, view, Continues, Work, copying, works_of, 
 use Rattle.fewest.specs.Bounded.{Bounded}
 use Rattle.fewest.proofs.Places.{one_place, place_below, entry_inside, stored}
 use Rattle.fewest.proofs.Bound.{bounded_full, fresh_below}
-use Rattle.fewest.proofs.Roles.{root, Holds, sound_holds, holds_sound, along, operand_before, left_continues}
-use Rattle.fewest.proofs.Lowering.{continues_fresh, settles_bounded, settles_rest}
+use Rattle.fewest.proofs.Roles.{along, operand_before, left_continues}
+use Rattle.fewest.proofs.Lowering.{continues_fresh, lowers_bounded, settles_bounded, settles_rest}
 use Rattle.fewest.proofs.Works.{works, record_works, offer_leads}
 
 -- each subexpression's last record is one of the rule's
@@ -29,7 +28,7 @@ pub node_record : {rs : List Rec} {rule : Expr} → Expression rs rule → (e : 
 node_record x e K p = omega (arith, rw p at (node_below e K (rw p x.numbered)), expression_long x)
 
 -- the table full of none, and that it is sound: it has no number
-pub full_none : (r t : ℕ) → r < records → t < terms → view (replicate (records * terms) none) r t ≡ none
+full_none : (r t : ℕ) → r < records → t < terms → view (replicate (records * terms) none) r t ≡ none
 unfolding view
 full_none r t h b = get_or-replicate (records * terms) (place r t) none 0 (place_below h b)
 
@@ -37,47 +36,33 @@ full_sound : {rs : List Rec} {rule : Expr} {s : Site} {g : Goal} → Expression 
     Sound s g rule (view (replicate (records * terms) none))
 full_sound x few = record { leads = λ e K p t b h. absurd (omega (arith, full_none (last e) t (omega (arith, node_record x e K p)) b)) }
 
--- A store keeps a claim on a number in a body if the claim holds of that number where it is stored.
-pub store_holds : {P : State → ℕ → Type 0} {rule : Expr} (T : List ℕ) {r t v k n : ℕ} → t < terms → v < view T r t →
-    ((e : Expr) (K : Context) → plug e K ≡ rule → root e K ≡ k → last e ≡ r → v ≡ n → P (entered e K t) n) →
-    Holds P rule (view T) k n → Holds P rule (view (set T (place r t) v)) k n
-unfolding view
-store_holds T {r} {t} {v} b l here holds = record {
-  at = λ e K p q u c h. ⊎_elim
-      (λ z. let (same, d) = one_place c b z.0 in rw d (here e K p q same (sym z.1 ∙ h)))
-      (λ z. holds.at e K p q u c (sym z ∙ h))
-      (stored T (place r t) v (entry_inside T (place r t) l) (place (last e) u));
-}
-
--- one step more than what is left after a subexpression is no none, unless that is none
-pub record Roomy (g : Goal) (rule : Expr) (T : List ℕ) : Type 0 where
-  pub more : (e : Expr) (K : Context) → plug e K ≡ rule → (u : ℕ) → u < terms → left (view T) g e K u < none → left (view T) g e K u + 1 < none
-
-bounded_roomy : {rs : List Rec} {rule : Expr} {L : Links} {g : Goal} {T : List ℕ} (s : Site) → Expression rs rule → Linked rule L →
-    Bounded T → Roomy g rule T
-bounded_roomy s x linked bound = record {
-  more = λ e K p u b h. fresh_below bound (continues_fresh (left_continues x.numbered linked {s = s} e K p u) h);
-}
-
 module _ {rs : List Rec} {rule : Expr} {L : Links} {s : Site} {g : Goal} (x : Expression rs rule) (linked : Linked rule L) where
   -- a store of what is offered keeps the table sound
   store_sound : {T : List ℕ} {r t v : ℕ} {w : Work} → Within s → Memᴰ w (works_of (get_or rs r starring) r (get_or L.first r 0)) →
-      t < terms → Offer (along L s g) T r t w v → v < view T r t → Sound s g rule (view T) → Sound s g rule (view (set T (place r t) v))
-  store_sound {T} ok i b o l sound =
-      holds_sound (λ k n h. store_holds T b l
-      (λ e K p q same m. offer_leads x linked ok sound e K p (rw (← same) at i) b (rw (← same, m) at o) h) (sound_holds sound h))
+      t < terms → Offer (along L s g) T r t w v → v < view T r t → Bounded T →
+      Sound s g rule (view T) → Sound s g rule (view (set T (place r t) v))
+  unfolding view
+  store_sound {T} {r} {t} {v} ok i b o l bound sound = record {
+    leads = λ e K p u c h. ⊎_elim
+        (λ z. let (q, j) = one_place c b z.0 in
+        let k = bound.top (place r t) in
+        rw z.1 (offer_leads x linked ok sound e K p (rw (← q) at i) c (rw (← q, ← j) at o) (omega arith)))
+        (λ z. rw z (sound.leads e K p u c (rw z at h)))
+        (stored T (place r t) v (entry_inside T (place r t) l) (place (last e) u));
+  }
 
-  lowers_sound : {T U : List ℕ} {r : ℕ} {w : Work} → Within s → Memᴰ w (works_of (get_or rs r starring) r (get_or L.first r 0)) →
-      Lowers (along L s g) w r T U → Sound s g rule (view T) → Sound s g rule (view U)
-  lowers_sound ok i stay sound = sound
-  lowers_sound ok i (lower q h o l) sound = store_sound ok i h o l (lowers_sound ok i q sound)
+  pub lowers_sound : {T U : List ℕ} {r : ℕ} {w : Work} → Within s → Memᴰ w (works_of (get_or rs r starring) r (get_or L.first r 0)) →
+      Lowers (along L s g) w r T U → Bounded T → Sound s g rule (view T) → Sound s g rule (view U)
+  lowers_sound ok i stay b sound = sound
+  lowers_sound ok i (lower q h o l) b sound = store_sound ok i h o l (lowers_bounded q b) (lowers_sound ok i q b sound)
 
   -- Lowering to what is offered keeps the table sound.
-  pub settles_sound : {T U : List ℕ} → Within s → Settles (along L s g) rs L.first T U → Sound s g rule (view T) → Sound s g rule (view U)
-  settles_sound ok rest sound = sound
-  settles_sound ok (work q h i l) sound = lowers_sound ok i l (settles_sound ok q sound)
+  pub settles_sound : {T U : List ℕ} → Within s → Settles (along L s g) rs L.first T U → Bounded T →
+      Sound s g rule (view T) → Sound s g rule (view U)
+  settles_sound ok rest b sound = sound
+  settles_sound ok (work q h i l) b sound = lowers_sound ok i l (settles_bounded q b) (settles_sound ok q b sound)
 
-  module _ {T : List ℕ} (settled : Settled (along L s g) rs L.first T) (ok : Within s) (roomy : Roomy g rule T) where
+  module _ {T : List ℕ} (settled : Settled (along L s g) rs L.first T) (bound : Bounded T) where
     -- nothing that a subexpression's work offers is lower
     quiet : (e : Expr) (K : Context) → plug e K ≡ rule → {w : Work} → Memᴰ w (works e) → {t v : ℕ} → t < terms →
         Offer (along L s g) T (last e) t w v → view T (last e) t ≤ v
@@ -88,22 +73,21 @@ module _ {rs : List Rec} {rule : Expr} {L : Links} {s : Site} {g : Goal} (x : Ex
         Near 0 (view T (last e) t) (view T q t)
     near_copy e K p i t b h = let k = quiet e K p i b by_row in (omega arith, omega arith)
 
-    near_step : (e : Expr) (K : Context) → plug e K ≡ rule → {w : Work} → Memᴰ w (works e) → {t : ℕ} (u : ℕ) → t < terms → u < terms →
+    near_step : (e : Expr) (K : Context) → plug e K ≡ rule → {w : Work} → Memᴰ w (works e) → {t : ℕ} (u : ℕ) → t < terms →
         (Continues (along L s g) T (last e) u (left (view T) g e K u) → Offer (along L s g) T (last e) t w (left (view T) g e K u + 1)) →
         Near 1 (view T (last e) t) (left (view T) g e K u)
-    near_step e K p i u b d offer h =
+    near_step e K p i u b offer h =
         let c = left_continues x.numbered linked e K p u in
         let k = quiet e K p i b (offer c) in
-        let f = roomy.more e K p u d h in
+        let f = fresh_below bound (continues_fresh c h) in
         (omega arith, omega arith)
 
     -- A settled table is closed.
     pub settled_closed : Closed s g rule (view T)
     settled_closed = record {
-      by_step = λ r a l K p k t m u b move. near_step (step r a l) K p (Memᴰ.head refl) u b (among ok b (move_reaches move)) (by_step move);
+      by_step = λ r a l K p k t m u b move. near_step (step r a l) K p (Memᴰ.head refl) u b (by_step move);
       by_test = λ r a y K p k t m u b move h.
-          near_step (tested r a y) K p (Memᴰ.head refl) u b (among ok b (move_reaches move))
-          (by_test move (rw (operand_before x.numbered (tested r a y) K p) h));
+          near_step (tested r a y) K p (Memᴰ.head refl) u b (by_test move (rw (operand_before x.numbered (tested r a y) K p) h));
       sequence_in = λ r a b K p. near_copy (sequence r a b) K p (Memᴰ.head refl);
       one_in = λ r a b K p. near_copy (choice r a b) K p (Memᴰ.head refl);
       other_in = λ r a b K p. near_copy (choice r a b) K p (Memᴰ.tail (Memᴰ.head refl));
@@ -121,10 +105,10 @@ pub settled_numbers : {rs : List Rec} {rule : Expr} {L : Links} {s : Site} {g : 
     Settles (along L s g) rs L.first T U → Settled (along L s g) rs L.first U →
     Numbers s g rule (view U) × ((r t : ℕ) → length rs ≤ r → r < records → t < terms → view U r t ≡ none)
 unfolding view
-settled_numbers {s = s} {T = T} ok x linked few full settles settled =
+settled_numbers {T = T} ok x linked few full settles settled =
     let began : Bounded T = rw full bounded_full in
     let bound = settles_bounded settles began in
-    let sound = settles_sound x linked ok settles (rw full (full_sound x few)) in (
-      exact ok (λ r t. bound.top (place r t)) sound (settled_closed x linked settled ok (bounded_roomy s x linked bound)),
+    let sound = settles_sound x linked ok settles began (rw full (full_sound x few)) in (
+      exact ok (λ r t. bound.top (place r t)) sound (settled_closed x linked settled bound),
       λ r t past h b. settles_rest settles r t past b ∙ rw full (full_none r t h b),
     )

@@ -1,17 +1,16 @@
 -- What may follow a finished subexpression, told by role and parent, is what its context says is left.
 -- The numbers of the arrays meet the expression here and in Works.antt, and nowhere else.
 use Prim.Native.Nat.{ℕ, zero, suc, ◌+◌, ◌-◌, ◌<◌, ◌≤◌}
-use mathlib.Core.Path.{◌≡◌, refl, sym, subst, subst₂, ◌∙◌}
+use mathlib.Core.Path.{◌≡◌, refl, sym, subst, subst₂}
 use mathlib.Core.Logic.{◌⊎◌, inl, inr, ⊎_elim}
 use mathlib.Core.List.{List, []}
 use native.Mathlib.Omega.{arith}
 use lib.ListN.{get_or}
 use Rattle.meaning.specs.Limits.{terms, none}
 use Rattle.meaning.specs.Site.{Site}
-use Rattle.meaning.specs.Move.{Axis}
 use Rattle.meaning.specs.Expression.{Expr, step, tested, sequence, choice, star, last, size, Numbered, Context, whole, test, first_of, second_of, one_of, other_of, round_of, plug}
-use Rattle.meaning.specs.Fewest.{Goal, Meets, State, entered, finished, Free, sequence_on, sequence_out, one_out, other_out, round_again, round_out, home, held}
-use Rattle.meaning.specs.Left.{Table, home_left, left, Leads, Sound}
+use Rattle.meaning.specs.Fewest.{Goal, finished, sequence_on, sequence_out, one_out, other_out, round_again, round_out, home, held}
+use Rattle.meaning.specs.Left.{home_left, left, Leads, Sound}
 use Rattle.meaning.proofs.Exact.{leads_free}
 use Rattle.meaning.proofs.Names.{operand_last, numbered_node}
 use Rattle.meaning.proofs.None.{min_either, home_meets}
@@ -65,36 +64,6 @@ before n (star r a) h = omega (arith, operand_last n a h.0 h.1)
 pub operand_before : {rule : Expr} → Numbered 0 rule → (e : Expr) (K : Context) → plug e K ≡ rule → last e - 1 ≡ last_operand e
 operand_before h e K p = let (n, i) = numbered_node e K (rw p h) in before n e i
 
--- the last record of the body in which a subexpression stands: the rule's, or that of the test of which it is part
-abbrev pub root : Expr → Context → ℕ
-root e whole = last e
-root e (test r a K) = last e
-root e (first_of r b K) = root (sequence r e b) K
-root e (second_of r a K) = root (sequence r a e) K
-root e (one_of r b K) = root (choice r e b) K
-root e (other_of r a K) = root (choice r a e) K
-root e (round_of r K) = root (star r e) K
-
--- what may be claimed of a state with a number: it is so of 0 where a body is finished, and what costs no step keeps it
-pub record Carried (s : Site) (g : Goal) (P : State → ℕ → Type 0) : Type 0 where
-  pub home : {e : Expr} {u : ℕ} → Meets g u → P (finished e whole u) 0
-  pub held : {e : Expr} {r : ℕ} {a : Axis} {K : Context} {u : ℕ} → P (finished e (test r a K) u) 0
-  pub free : {x y : State} {v : ℕ} → Free s x y → P y v → P x v
-
--- it is so of each entry that is v in the body whose last record is k
-pub record Holds (P : State → ℕ → Type 0) (rule : Expr) (n : Table) (k v : ℕ) : Type 0 where
-  pub at : (e : Expr) (K : Context) → plug e K ≡ rule → root e K ≡ k → (t : ℕ) → t < terms → n (last e) t ≡ v → P (entered e K t) v
-
--- that a way leads from it is such a claim; a table is sound where it holds of every number
-pub leads_carried : {s : Site} {g : Goal} → Carried s g (Leads s g)
-leads_carried = record { home = λ m. ([], home m, refl); held = ([], held, refl); free = leads_free }
-
-pub sound_holds : {s : Site} {g : Goal} {rule : Expr} {n : Table} {k v : ℕ} → Sound s g rule n → v < none → Holds (Leads s g) rule n k v
-sound_holds sound h = record { at = λ e K p q t b i. rw (← i) (sound.leads e K p t b (omega arith)) }
-
-pub holds_sound : {s : Site} {g : Goal} {rule : Expr} {n : Table} → ((k v : ℕ) → v < none → Holds (Leads s g) rule n k v) → Sound s g rule n
-holds_sound {n = n} holds = record { leads = λ e K p t b h. (holds (root e K) (n (last e) t) h).at e K p refl t b refl }
-
 -- what a walk that follows these links is about
 abbrev pub along : Links → Site → Goal → Frame
 along L s g = frame s L.up L.role g
@@ -142,27 +111,25 @@ module _ {rule : Expr} {L : Links} (numbered : Numbered 0 rule) (linked : Linked
       rw (← operand_before numbered (star r e) K p)
       (⊎_elim (λ k. omega arith) (λ k. omega (arith, continues_left (star r e) K p k)) (role_says e (round_of r K) p c))
 
-  -- Where a claim holds of a number in a body, it holds of what may follow with that number.
-  pub continues_holds : {P : State → ℕ → Type 0} → Carried s g P → (e : Expr) (K : Context) {u v : ℕ} →
-      Holds P rule (view T) (root e K) v → plug e K ≡ rule → u < terms → Continues (along L s g) T (last e) u v → v < none → P (finished e K u) v
-  continues_holds carried e whole {u} {v} holds p b c h =
+  -- In a sound table what may follow has its way.
+  pub continues_leads : Sound s g rule (view T) → (e : Expr) (K : Context) {u v : ℕ} → plug e K ≡ rule → u < terms →
+      Continues (along L s g) T (last e) u v → v < none → Leads s g (finished e K u) v
+  continues_leads sound e whole {u} {v} p b c h =
       let k : v ≡ home_left g u = role_says e whole p c in
       let m = home_meets g u (omega arith) in
-      rw (k ∙ m.1) (carried.home m.0)
-  continues_holds carried e (test r a K) {v = v} holds p b c h =
-      let k : v ≡ 0 = role_says e (test r a K) p c in
-      rw k carried.held
-  continues_holds carried e (first_of r f K) {u} {v} holds p b c h =
+      ([], home m.0, omega arith)
+  continues_leads sound e (test r a K) p b c h = ([], held, sym (role_says e (test r a K) p c))
+  continues_leads sound e (first_of r f K) {u} {v} p b c h =
       let k : v ≡ view T (last f) u = rw (← operand_before numbered (sequence r e f) K p) (role_says e (first_of r f K) p c) in
-      carried.free sequence_on (holds.at f (second_of r e K) p refl u b (sym k))
-  continues_holds carried e (second_of r a K) holds p b c h =
-      carried.free sequence_out (continues_holds carried (sequence r a e) K holds p b (as_parent e (sequence r a e) (second_of r a K) K p p refl refl c) h)
-  continues_holds carried e (one_of r f K) holds p b c h =
-      carried.free one_out (continues_holds carried (choice r e f) K holds p b (as_parent e (choice r e f) (one_of r f K) K p p refl refl c) h)
-  continues_holds carried e (other_of r a K) holds p b c h =
-      carried.free other_out (continues_holds carried (choice r a e) K holds p b (as_parent e (choice r a e) (other_of r a K) K p p refl refl c) h)
-  continues_holds carried e (round_of r K) {u} {v} holds p b c h =
+      rw k (leads_free sequence_on (sound.leads f (second_of r e K) p u b (omega arith)))
+  continues_leads sound e (second_of r a K) p b c h =
+      leads_free sequence_out (continues_leads sound (sequence r a e) K p b (as_parent e (sequence r a e) (second_of r a K) K p p refl refl c) h)
+  continues_leads sound e (one_of r f K) p b c h =
+      leads_free one_out (continues_leads sound (choice r e f) K p b (as_parent e (choice r e f) (one_of r f K) K p p refl refl c) h)
+  continues_leads sound e (other_of r a K) p b c h =
+      leads_free other_out (continues_leads sound (choice r a e) K p b (as_parent e (choice r a e) (other_of r a K) K p p refl refl c) h)
+  continues_leads sound e (round_of r K) {u} {v} p b c h =
       ⊎_elim
       (λ k. let same : v ≡ view T (last e) u = rw (← operand_before numbered (star r e) K p) k in
-      carried.free round_again (holds.at e (round_of r K) p refl u b (sym same)))
-      (λ k. carried.free round_out (continues_holds carried (star r e) K holds p b k h)) (role_says e (round_of r K) p c)
+      rw same (leads_free round_again (sound.leads e (round_of r K) p u b (omega arith))))
+      (λ k. leads_free round_out (continues_leads sound (star r e) K p b k h)) (role_says e (round_of r K) p c)

@@ -1,5 +1,7 @@
 // The number table, worked on the lent bytes: entries are only ever lowered to what the table offers, and sweeps go on
 // until one changes nothing. The order of work is free; what it leaves is certified by the last sweep.
+#![tactic(auto)]
+
 pub mod pairs; // pairs.rt: numbers in byte pairs
 pub mod table; // table.rt: entries by record and term
 pub mod links; // links.rt: where each record's expression stands in the rule
@@ -13,7 +15,7 @@ pub mod sweep; // sweep.rt: sweeps over the table, until one changes nothing
 pub mod starts; // starts.rt: the starts, read off the table
 
 // Where the rule's own body may finish.
-#[derive(Drop)]
+#[derive(Clone, Copy)]
 pub enum Goal {
     End(usize),
     Anywhere,

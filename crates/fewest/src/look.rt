@@ -13,7 +13,7 @@ use records::site::{OBJECT, PREDICATE, SUBJECT, term_at};
 use records::{Label, NONE, RECORDS};
 
 // A triple as an axis takes it: from a term to a term, past a middle.
-#[derive(Drop)]
+#[derive(Clone, Copy)]
 pub struct Moved {
     pub from: usize,
     pub middle: usize,
@@ -21,7 +21,7 @@ pub struct Moved {
 }
 
 // Where the terms stand in a triple's record, as an axis takes them.
-#[derive(Drop)]
+#[derive(Clone, Copy)]
 pub struct Parts {
     pub from: usize,
     pub middle: usize,

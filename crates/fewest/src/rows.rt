@@ -55,7 +55,7 @@ pub fn above(numbers: &[u8], b: usize, a: usize) -> bool
 }
 
 // Whether row b is nowhere above what is left at the rule's own finish, as one entry tells.
-pub fn below_home(goal: Goal, numbers: &[u8], b: usize) -> bool
+fn below_home(goal: Goal, numbers: &[u8], b: usize) -> bool
     requires { Full numbers.now × (b < records) }
     ensures { result ≡ true → HomeBelow (goal_of goal) b (pairs numbers.now) }
 {

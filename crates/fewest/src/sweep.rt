@@ -122,7 +122,7 @@ pub fn sweep_thread<'a>(
 }
 
 // The one term at which the rule is finished, where record r finishes it; no term where there is none or more.
-pub fn only_end<'a>(role: &'a [u8; RECORDS], goal: Goal, r: usize) -> usize
+fn only_end<'a>(role: &'a [u8; RECORDS], goal: Goal, r: usize) -> usize
     requires { r < records }
     ensures { OnlyEnd role.now (goal_of goal) r result }
 {
@@ -211,7 +211,7 @@ fn sweep_star<'a>(
 }
 
 // The row of record r, by its record; `first` is the record of a join's first operand.
-pub fn sweep_record<'a>(
+fn sweep_record<'a>(
     site: &[u8],
     scratch: &[u8],
     triples: usize,

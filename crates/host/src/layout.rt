@@ -8,7 +8,7 @@ use calls::{Decision, EndList, Limit, StartList};
 use records::number;
 
 #[repr(C)]
-#[derive(Drop)]
+#[derive(Clone, Copy)]
 pub struct DecisionForC {
     pub refusal: u32,
     pub yes: u32,
@@ -18,7 +18,7 @@ pub struct DecisionForC {
 }
 
 #[repr(C)]
-#[derive(Drop)]
+#[derive(Clone, Copy)]
 pub struct EndsForC {
     pub refusal: u32,
     pub unused: u32,
@@ -28,7 +28,7 @@ pub struct EndsForC {
 }
 
 #[repr(C)]
-#[derive(Drop)]
+#[derive(Clone, Copy)]
 pub struct StartsForC {
     pub refusal: u32,
     pub unused: u32,
@@ -37,7 +37,7 @@ pub struct StartsForC {
 }
 
 #[repr(C)]
-#[derive(Drop)]
+#[derive(Clone, Copy)]
 pub struct CeilingForC {
     pub refusal: u32,
     pub unused: u32,

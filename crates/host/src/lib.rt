@@ -1,5 +1,7 @@
 // The calls for C: numbers and byte slices in, one struct out. The manual is include/carolivy.h, the layout docs/HOST.md.
 // Nothing is decided here: each call hands on to its namesake in `calls`, and lays the outcome out.
+#![tactic(auto)]
+
 ghost use Rattle.host.specs.ForC.{DecidedForC, EndedForC, StartedForC, LimitedForC};
 
 use crate::layout::{

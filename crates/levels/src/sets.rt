@@ -1,112 +1,119 @@
-// Which steps of a body may be first and last in an expression, and which may come before it, as sets: in the vocabulary, where a star
-// may pass empty, and outside. A body has at most 16 steps, so a set has 16 bits. Hints, read off the rule; nothing rests on them.
+// Which steps may be last in an expression, and which may come before it, as sets of the steps of its body: hints for the order
+// of work, read off the rule. A body has at most 16 steps, so a set has 16 bits; nothing rests on what a hint says.
 ghost use Rattle.std.specs.Prelude.{◌<◌};
 ghost use Rattle.meaning.specs.Limits.{records};
 ghost use Rattle.fewest.specs.Kept.{Kept};
 
-use crate::shape::{COLUMNS, empty, less, root_of, size_of, some_first, some_record};
 use fewest::cells::{cell, put_set};
+use fewest::pairs::wide;
 use fewest::threads::FREE;
-use records::{RECORDS, Record, TERMS};
+use records::rule::record_of;
+use records::{Label, RECORDS, Record, TERMS};
 
-// Scratch behind the threads, in cells: at each term the steps that have no number yet, those that were never open, and those that are
-// open at a level, for two levels by turns; then the lists of the terms of both levels, a byte for a term.
+// Scratch behind the threads, in cells: for two levels by turns, which steps are new at a term and, once they have risen, which are
+// open; which ever were open; the lists of both levels, a byte for a term; and the columns of the hints.
 pub const NEW: usize = FREE;
 
-pub const SHUT: usize = NEW + TERMS;
+pub const DONE: usize = NEW + TERMS + TERMS;
 
-pub const OPEN: usize = SHUT + TERMS;
+pub const LIST: usize = DONE + TERMS;
 
-pub const LIST: usize = OPEN + TERMS + TERMS;
+const HINTS: usize = LIST + TERMS;
 
-// While a body is prepared, columns stand where the lists will: an entry a record, the steps that may be first in it, last in it, and
-// that may come before it, each in the vocabulary and outside.
-const FIRST: usize = 0;
+// The columns, an entry a record: its size and flags, its place in the order second operand, first operand, record, the record at
+// a place, the last record of its body, the steps that may be last in it, those that may come before, and its parent in its body;
+// and, by its bit, the record of a step.
+const SIZE: usize = 0;
 
-const FIRST_OUT: usize = FIRST + RECORDS;
+const PLACE: usize = SIZE + RECORDS;
 
-const LAST: usize = FIRST_OUT + RECORDS;
+const ORDER: usize = PLACE + RECORDS;
 
-const LAST_OUT: usize = LAST + RECORDS;
+const ROOT: usize = ORDER + RECORDS;
 
-const BEFORE: usize = LAST_OUT + RECORDS;
+const LAST: usize = ROOT + RECORDS;
 
-const BEFORE_OUT: usize = BEFORE + RECORDS;
+const BEFORE: usize = LAST + RECORDS;
 
-const ALL: usize = BEFORE_OUT + RECORDS;
+const PARENT: usize = BEFORE + RECORDS;
 
-// So many steps a body has at most.
-pub const STEPS: usize = 16;
+const STEPS: usize = PARENT + RECORDS;
 
-// What the levels know of a body's steps, by their bits: the record of each, and which steps it may come right after, in the vocabulary
-// and outside; and, by axis, the set of the steps that take it.
-pub const OWN: usize = 4 * STEPS;
+const COLUMNS: usize = STEPS + RECORDS;
 
-const AFTER: usize = STEPS;
+// Flags beside the size: the expression may pass empty at a term of the vocabulary; it may end with a star.
+const EMPTY: usize = 64;
 
-const AFTER_OUT: usize = AFTER + STEPS;
+const STAR: usize = 128;
 
-const AXES: usize = AFTER_OUT + STEPS;
-
-fn column(scratch: &[u8], i: usize) -> usize {
-    cell(scratch, LIST + i % ALL)
+// An entry of the columns.
+fn hint(scratch: &[u8], i: usize) -> usize {
+    cell(scratch, HINTS + i % COLUMNS)
 }
 
-fn put_column(scratch: &mut [u8], i: usize, v: usize)
+fn put_hint(scratch: &mut [u8], i: usize, v: usize)
     ensures { Kept scratch.old scratch.new }
 {
-    put_set(scratch, LIST + i % ALL, v);
+    put_set(scratch, HINTS + i % COLUMNS, v);
 }
 
-// The steps that may be last in the expression of record r: in the vocabulary, and outside; and those that may be first.
+// The difference, or 0.
+pub fn less(a: usize, b: usize) -> usize {
+    if a < b {
+        return 0;
+    }
+    a - b
+}
+
+pub fn size_of(scratch: &[u8], r: usize) -> usize {
+    hint(scratch, SIZE + r % RECORDS) % EMPTY
+}
+
+pub fn place_of(scratch: &[u8], r: usize) -> usize {
+    hint(scratch, PLACE + r % RECORDS) % RECORDS
+}
+
+pub fn record_in(scratch: &[u8], place: usize) -> usize {
+    hint(scratch, ORDER + place % RECORDS) % RECORDS
+}
+
+pub fn root_of(scratch: &[u8], r: usize) -> usize {
+    hint(scratch, ROOT + r % RECORDS) % RECORDS
+}
+
+// The record of its parent; 0, which is no parent's, for the last record of a body.
+pub fn parent_of(scratch: &[u8], r: usize) -> usize
+    ensures { result < records }
+{
+    hint(scratch, PARENT + r % RECORDS) % RECORDS
+}
+
+// The step record with this bit in the sets of its body.
+pub fn step_of(scratch: &[u8], bit: usize) -> usize
+    ensures { result < records }
+{
+    hint(scratch, STEPS + bit % RECORDS) % RECORDS
+}
+
 pub fn last_in(scratch: &[u8], r: usize) -> usize {
-    column(scratch, LAST + r % RECORDS)
+    hint(scratch, LAST + r % RECORDS)
 }
 
-pub fn last_out(scratch: &[u8], r: usize) -> usize {
-    column(scratch, LAST_OUT + r % RECORDS)
+pub fn before(scratch: &[u8], r: usize) -> usize {
+    hint(scratch, BEFORE + r % RECORDS)
 }
 
-pub fn first_in(scratch: &[u8], r: usize) -> usize {
-    column(scratch, FIRST + r % RECORDS)
+// The flag where the expression may pass empty, else 0; and where it may end with a star.
+fn empty(scratch: &[u8], r: usize) -> usize {
+    hint(scratch, SIZE + r % RECORDS) & EMPTY
 }
 
-pub fn first_out(scratch: &[u8], r: usize) -> usize {
-    column(scratch, FIRST_OUT + r % RECORDS)
+fn star(scratch: &[u8], r: usize) -> usize {
+    hint(scratch, SIZE + r % RECORDS) & STAR
 }
 
-// The steps that may come before it.
-fn before_in(scratch: &[u8], r: usize) -> usize {
-    column(scratch, BEFORE + r % RECORDS)
-}
-
-fn before_out(scratch: &[u8], r: usize) -> usize {
-    column(scratch, BEFORE_OUT + r % RECORDS)
-}
-
-// Record r's steps that may be first and last.
-fn put_ends(
-    scratch: &mut [u8],
-    r: usize,
-    first_in: usize,
-    first_out: usize,
-    last_in: usize,
-    last_out: usize,
-)
-    ensures { Kept scratch.old scratch.new }
-{
-    put_column(scratch, FIRST + r % RECORDS, first_in);
-    put_column(scratch, FIRST_OUT + r % RECORDS, first_out);
-    put_column(scratch, LAST + r % RECORDS, last_in);
-    put_column(scratch, LAST_OUT + r % RECORDS, last_out);
-}
-
-// Record r's steps that may come before.
-fn put_before(scratch: &mut [u8], r: usize, inside: usize, outside: usize)
-    ensures { Kept scratch.old scratch.new }
-{
-    put_column(scratch, BEFORE + r % RECORDS, inside);
-    put_column(scratch, BEFORE_OUT + r % RECORDS, outside);
+pub fn ends_in_star(scratch: &[u8], r: usize) -> bool {
+    star(scratch, r) != 0
 }
 
 // This set where the flag is up, else none.
@@ -117,92 +124,226 @@ fn only_if(flag: usize, set: usize) -> usize {
     set
 }
 
-// The steps that may be first and last in record r, which is step number n of its body if it is a step. How many steps there are now.
-fn ends_of(
+// One more than the sizes of the operands.
+fn more(a: usize, b: usize) -> usize {
+    1 + a % EMPTY + b % EMPTY
+}
+
+// The size of a record and its flags, from those of its operands.
+fn sized(rec: Record, first: usize, second: usize, scratch: &[u8]) -> usize {
+    match rec {
+        Record::Step(step) => {
+            let label = step.label;
+            match label {
+                Label::Any => 1,
+                Label::Term(_) => 1,
+                Label::Test => more(0, size_of(scratch, second)),
+            }
+        }
+        Record::Sequence => {
+            let flags = empty(scratch, first) & empty(scratch, second)
+                | star(scratch, second)
+                | only_if(empty(scratch, second), star(scratch, first));
+            more(size_of(scratch, first), size_of(scratch, second)) | flags
+        }
+        Record::Choice => {
+            let flags = empty(scratch, first)
+                | empty(scratch, second)
+                | star(scratch, first)
+                | star(scratch, second);
+            more(size_of(scratch, first), size_of(scratch, second)) | flags
+        }
+        Record::Star => more(0, size_of(scratch, second)) | EMPTY | STAR,
+    }
+}
+
+// Record r stands at this place, in the body of this root, below this parent.
+fn stand(scratch: &mut [u8], r: usize, place: usize, root: usize, parent: usize)
+    ensures { Kept scratch.old scratch.new }
+{
+    put_hint(scratch, PLACE + r % RECORDS, place);
+    put_hint(scratch, ORDER + place % RECORDS, r);
+    put_hint(scratch, ROOT + r % RECORDS, root);
+    put_hint(scratch, PARENT + r % RECORDS, parent);
+}
+
+// The operands of record r take their places before it.
+fn order(rec: Record, first: usize, second: usize, r: usize, scratch: &mut [u8])
+    ensures { Kept scratch.old scratch.new }
+{
+    let place = less(place_of(scratch, r), 1);
+    let root = root_of(scratch, r);
+    match rec {
+        Record::Step(step) => {
+            let label = step.label;
+            match label {
+                Label::Any => {}
+                Label::Term(_) => {}
+                Label::Test => stand(scratch, second, place, second, 0),
+            }
+        }
+        Record::Sequence => order_join(first, second, place, root, r, scratch),
+        Record::Choice => order_join(first, second, place, root, r, scratch),
+        Record::Star => stand(scratch, second, place, root, r),
+    }
+}
+
+fn order_join(first: usize, second: usize, place: usize, root: usize, r: usize, scratch: &mut [u8])
+    ensures { Kept scratch.old scratch.new }
+{
+    stand(scratch, first, place, root, r);
+    let size = size_of(scratch, first);
+    stand(scratch, second, less(place, size), root, r);
+}
+
+// Record r; of a number past the last, some record.
+fn some_record(rule: &[u8], starts: &[u8; RECORDS], r: usize) -> Record {
+    record_of(rule, starts, r % RECORDS)
+}
+
+// Record r's size, and the places of its operands.
+fn size_at<'a>(
+    rule: &[u8],
+    starts: &[u8; RECORDS],
+    first: &'a [u8; RECORDS],
+    r: usize,
+    scratch: &mut [u8],
+)
+    ensures { Kept scratch.old scratch.new }
+{
+    if RECORDS <= r {
+        return;
+    }
+    let v = sized(
+        some_record(rule, starts, r),
+        wide(first[r]),
+        less(r, 1),
+        scratch,
+    );
+    put_hint(scratch, SIZE + r, v);
+}
+
+fn order_at<'a>(
+    rule: &[u8],
+    starts: &[u8; RECORDS],
+    first: &'a [u8; RECORDS],
+    r: usize,
+    scratch: &mut [u8],
+)
+    ensures { Kept scratch.old scratch.new }
+{
+    if RECORDS <= r {
+        return;
+    }
+    order(
+        some_record(rule, starts, r),
+        wide(first[r]),
+        less(r, 1),
+        r,
+        scratch,
+    );
+}
+
+// The sizes of all records, from the first to the last.
+pub fn sizes<'a>(
+    rule: &[u8],
+    starts: &[u8; RECORDS],
+    count: usize,
+    first: &'a [u8; RECORDS],
+    scratch: &mut [u8],
+)
+    ensures { Kept scratch.old scratch.new }
+{
+    let mut r = 0;
+    while r < count {
+        size_at(rule, starts, first, r, scratch);
+        r += 1;
+    }
+}
+
+// The places of all records, from the last to the first.
+pub fn orders<'a>(
+    rule: &[u8],
+    starts: &[u8; RECORDS],
+    count: usize,
+    first: &'a [u8; RECORDS],
+    scratch: &mut [u8],
+)
+    ensures { Kept scratch.old scratch.new }
+{
+    let whole = less(count, 1);
+    stand(scratch, whole, whole, whole, 0);
+    let mut r = count;
+    while 0 < r {
+        r -= 1;
+        order_at(rule, starts, first, r, scratch);
+    }
+}
+
+// The steps that may be last in record r, which is step number n of its body if it is a step. How many steps there are now.
+fn last_of(
     rec: Record,
     first: usize,
     second: usize,
     r: usize,
     n: usize,
-    shape: &[u8; COLUMNS],
     scratch: &mut [u8],
 ) -> usize
     ensures { Kept scratch.old scratch.new }
 {
     match rec {
         Record::Step(_) => {
-            let one = 1usize << (n % STEPS);
-            put_ends(scratch, r, one, one, one, one);
-            n % STEPS + 1
+            put_hint(scratch, STEPS + n % RECORDS, r);
+            put_hint(scratch, LAST + r % RECORDS, 1usize << (n % 16));
+            n % RECORDS + 1
         }
         Record::Sequence => {
-            let begins = first_in(scratch, first)
-                | only_if(empty(shape, first), first_in(scratch, second));
-            let finishes = last_in(scratch, second)
-                | only_if(empty(shape, second), last_in(scratch, first));
-            let begins_out = first_out(scratch, first);
-            let finishes_out = last_out(scratch, second);
-            put_ends(scratch, r, begins, begins_out, finishes, finishes_out);
+            let set = last_in(scratch, second)
+                | only_if(empty(scratch, second), last_in(scratch, first));
+            put_hint(scratch, LAST + r % RECORDS, set);
             n
         }
         Record::Choice => {
-            let begins = first_in(scratch, first) | first_in(scratch, second);
-            let finishes = last_in(scratch, first) | last_in(scratch, second);
-            let begins_out = first_out(scratch, first) | first_out(scratch, second);
-            let finishes_out = last_out(scratch, first) | last_out(scratch, second);
-            put_ends(scratch, r, begins, begins_out, finishes, finishes_out);
+            let set = last_in(scratch, first) | last_in(scratch, second);
+            put_hint(scratch, LAST + r % RECORDS, set);
             n
         }
         Record::Star => {
-            let begins = first_in(scratch, second);
-            let finishes = last_in(scratch, second);
-            let begins_out = first_out(scratch, second);
-            let finishes_out = last_out(scratch, second);
-            put_ends(scratch, r, begins, begins_out, finishes, finishes_out);
+            let set = last_in(scratch, second);
+            put_hint(scratch, LAST + r % RECORDS, set);
             n
         }
     }
 }
 
 // The steps that may come before the operands of record r.
-fn befores_of(
-    rec: Record,
-    first: usize,
-    second: usize,
-    r: usize,
-    shape: &[u8; COLUMNS],
-    scratch: &mut [u8],
-)
+fn before_of(rec: Record, first: usize, second: usize, r: usize, scratch: &mut [u8])
     ensures { Kept scratch.old scratch.new }
 {
-    let inside = before_in(scratch, r);
-    let outside = before_out(scratch, r);
+    let set = before(scratch, r);
     match rec {
         Record::Step(_) => {}
         Record::Sequence => {
-            let then = last_in(scratch, first) | only_if(empty(shape, first), inside);
-            let then_out = last_out(scratch, first);
-            put_before(scratch, first, inside, outside);
-            put_before(scratch, second, then, then_out);
+            put_hint(scratch, BEFORE + first % RECORDS, set);
+            let then = last_in(scratch, first) | only_if(empty(scratch, first), set);
+            put_hint(scratch, BEFORE + second % RECORDS, then);
         }
         Record::Choice => {
-            put_before(scratch, first, inside, outside);
-            put_before(scratch, second, inside, outside);
+            put_hint(scratch, BEFORE + first % RECORDS, set);
+            put_hint(scratch, BEFORE + second % RECORDS, set);
         }
         Record::Star => {
-            let again = inside | last_in(scratch, second);
-            let again_out = outside | last_out(scratch, second);
-            put_before(scratch, second, again, again_out);
+            let again = set | last_in(scratch, second);
+            put_hint(scratch, BEFORE + second % RECORDS, again);
         }
     }
 }
 
 // Record r, if it stands in the body of root b.
-fn ends_if(
+fn last_if<'a>(
     rule: &[u8],
     starts: &[u8; RECORDS],
-    first: &[u8; RECORDS],
-    shape: &[u8; COLUMNS],
+    first: &'a [u8; RECORDS],
     b: usize,
     r: usize,
     n: usize,
@@ -210,181 +351,85 @@ fn ends_if(
 ) -> usize
     ensures { Kept scratch.old scratch.new }
 {
-    if root_of(shape, r) != b {
+    if RECORDS <= r {
         return n;
     }
-    ends_of(
+    if root_of(scratch, r) != b {
+        return n;
+    }
+    last_of(
         some_record(rule, starts, r),
-        some_first(first, r),
+        wide(first[r]),
         less(r, 1),
         r,
         n,
-        shape,
         scratch,
     )
 }
 
-fn befores_if(
+fn before_if<'a>(
     rule: &[u8],
     starts: &[u8; RECORDS],
-    first: &[u8; RECORDS],
-    shape: &[u8; COLUMNS],
+    first: &'a [u8; RECORDS],
     b: usize,
     r: usize,
     scratch: &mut [u8],
 )
     ensures { Kept scratch.old scratch.new }
 {
-    if root_of(shape, r) == b {
-        befores_of(
+    if RECORDS <= r {
+        return;
+    }
+    if root_of(scratch, r) == b {
+        before_of(
             some_record(rule, starts, r),
-            some_first(first, r),
+            wide(first[r]),
             less(r, 1),
             r,
-            shape,
             scratch,
         );
     }
 }
 
-// The steps that may be first and last in the records of the body of root b, of which record `low` is the first.
-fn all_ends(
+// What may be last in the records of the body of root b, and its steps, by their bits.
+pub fn lasts<'a>(
     rule: &[u8],
     starts: &[u8; RECORDS],
-    first: &[u8; RECORDS],
-    shape: &[u8; COLUMNS],
-    low: usize,
+    first: &'a [u8; RECORDS],
     b: usize,
     scratch: &mut [u8],
 )
     ensures { Kept scratch.old scratch.new }
 {
+    if RECORDS <= b {
+        return;
+    }
     let mut n = 0;
-    let mut r = low;
-    while r < b + 1 {
-        n = ends_if(rule, starts, first, shape, b, r, n, scratch);
+    let mut r = less(b + 1, size_of(scratch, b));
+    while r <= b {
+        n = last_if(rule, starts, first, b, r, n, scratch);
         r += 1;
     }
 }
 
-// The steps that may come before them.
-fn all_befores(
+// What may come before the records of the body of root b.
+pub fn befores<'a>(
     rule: &[u8],
     starts: &[u8; RECORDS],
-    first: &[u8; RECORDS],
-    shape: &[u8; COLUMNS],
-    low: usize,
+    first: &'a [u8; RECORDS],
     b: usize,
     scratch: &mut [u8],
 )
     ensures { Kept scratch.old scratch.new }
 {
-    put_before(scratch, b, 0, 0);
+    if RECORDS <= b {
+        return;
+    }
+    put_hint(scratch, BEFORE + b, 0);
+    let low = less(b + 1, size_of(scratch, b));
     let mut r = b + 1;
     while low < r {
         r -= 1;
-        befores_if(rule, starts, first, shape, b, r, scratch);
+        before_if(rule, starts, first, b, r, scratch);
     }
-}
-
-// Record r is step number n of its body, if it is a step. How many there are now.
-fn keep(rec: Record, r: usize, n: usize, scratch: &[u8], own: &mut [u16; OWN]) -> usize {
-    match rec {
-        Record::Step(step) => {
-            let axis = AXES + step.axis % STEPS;
-            let bit = n % STEPS;
-            own[bit] = (r % RECORDS) as u16;
-            own[AFTER + bit] = (before_in(scratch, r) % 65536) as u16;
-            own[AFTER_OUT + bit] = (before_out(scratch, r) % 65536) as u16;
-            own[axis] = own[axis] | 1u16 << bit;
-            bit + 1
-        }
-        Record::Sequence => n,
-        Record::Choice => n,
-        Record::Star => n,
-    }
-}
-
-// That, if it stands in the body of root b.
-fn keep_if(
-    rule: &[u8],
-    starts: &[u8; RECORDS],
-    shape: &[u8; COLUMNS],
-    b: usize,
-    r: usize,
-    n: usize,
-    scratch: &[u8],
-    own: &mut [u16; OWN],
-) -> usize {
-    if root_of(shape, r) != b {
-        return n;
-    }
-    keep(some_record(rule, starts, r), r, n, scratch, own)
-}
-
-// No step has an axis yet.
-fn clear_axes(own: &mut [u16; OWN]) {
-    let mut a = 0;
-    while a < STEPS {
-        own[AXES + a] = 0;
-        a += 1;
-    }
-}
-
-// What the levels know of the steps of the body of root b.
-fn keep_all(
-    rule: &[u8],
-    starts: &[u8; RECORDS],
-    shape: &[u8; COLUMNS],
-    low: usize,
-    b: usize,
-    scratch: &[u8],
-    own: &mut [u16; OWN],
-) {
-    clear_axes(own);
-    let mut n = 0;
-    let mut r = low;
-    while r < b + 1 {
-        n = keep_if(rule, starts, shape, b, r, n, scratch, own);
-        r += 1;
-    }
-}
-
-// The body of root b is prepared.
-pub fn prepare(
-    rule: &[u8],
-    starts: &[u8; RECORDS],
-    first: &[u8; RECORDS],
-    shape: &[u8; COLUMNS],
-    b: usize,
-    scratch: &mut [u8],
-    own: &mut [u16; OWN],
-)
-    requires { b < records }
-    ensures { Kept scratch.old scratch.new }
-{
-    let low = less(b + 1, size_of(shape, b));
-    all_ends(rule, starts, first, shape, low, b, scratch);
-    all_befores(rule, starts, first, shape, low, b, scratch);
-    keep_all(rule, starts, shape, low, b, scratch, own);
-}
-
-// The record of the step with this bit.
-pub fn step_of(own: &[u16; OWN], bit: usize) -> usize
-    ensures { result < records }
-{
-    own[bit % STEPS] as usize % RECORDS
-}
-
-// The steps that it may come right after, at a term inside the vocabulary or outside.
-pub fn after(own: &[u16; OWN], bit: usize, inside: bool) -> usize {
-    if inside {
-        return own[AFTER + bit % STEPS] as usize;
-    }
-    own[AFTER_OUT + bit % STEPS] as usize
-}
-
-// The steps that take this axis.
-pub fn along_axis(own: &[u16; OWN], axis: usize) -> usize {
-    own[AXES + axis % STEPS] as usize
 }

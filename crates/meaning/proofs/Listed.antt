@@ -45,6 +45,7 @@ below (suc n) = n ∷ below n
 
 pub below_less : (n : ℕ) {k : ℕ} → k ∈ below n → k < n
 unfolding below
+below_less zero m = absurd (Memᴰ.not-nil m)
 below_less (suc n) (Memᴰ.head e) = omega arith
 below_less (suc n) (Memᴰ.tail m) = let h = below_less n m in omega arith
 
@@ -73,7 +74,7 @@ in_cons p = (
 pub in_append : {A : Type 0} (k l : List A) {x : A} → (x ∈ k ++ l) ↔ ((x ∈ k) ⊎ (x ∈ l))
 in_append k l = (λ m. Memᴰ.append_cases k m, λ h. ⊎_elim (Memᴰ.append_left l) (Memᴰ.append_right k) h)
 
-pub in_flat_map : {A B : Type 0} (f : A → List B) {l : List A} {x : A} {y : B} → x ∈ l → y ∈ f x → y ∈ flat_map f l
+pub in_flat_map : {A B : Type 0} (f : A → List B) {x : A} {l : List A} {y : B} → x ∈ l → y ∈ f x → y ∈ flat_map f l
 unfolding flat_map
 in_flat_map f {y} (Memᴰ.head {xs = l} e) m = Memᴰ.append_left (flat_map f l) (subst (λ z. y ∈ f z) e m)
 in_flat_map f (Memᴰ.tail {x = a} h) m = Memᴰ.append_right (f a) (in_flat_map f h m)

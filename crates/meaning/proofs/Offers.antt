@@ -35,6 +35,9 @@ pub record Offers (s : Site) (x : State) (e : Expr) (K : Context) (k u : ℕ) : 
 takes_lands : (s : Site) (e : Expr) (k t u v : ℕ) → Takes s e k t u → Takes s e k t v → u ≡ v
 takes_lands s (step r a l) k t u v (m, x) (n, y) = move_lands x y
 takes_lands s (tested r a x) k t u v (m, y, h) (n, z, j) = move_lands y z
+takes_lands s (sequence _ _ _) k t u v x _ = elim x [ ]
+takes_lands s (choice _ _ _) k t u v x _ = elim x [ ]
+takes_lands s (star _ _) k t u v x _ = elim x [ ]
 
 -- what free moves lead to stands in the same rule
 pub opens_rule : {s : Site} {x : State} {e : Expr} {K : Context} → Opens s x e K → plug e K ≡ rule_of x
@@ -46,6 +49,9 @@ module _ {s : Site} {g : Goal} where
       Way s g (finished e K u) p → Way s g (entered e K t) (taken (last e) k u ∷ p)
   takes_way (step r a l) k t (m, move) w = by_step move w
   takes_way (tested r a x) {K} k t (m, move, holds) w = by_test move ((holds_way s g r a x K m).0 holds).1 w
+  takes_way (sequence _ _ _) k t x w = elim x [ ]
+  takes_way (choice _ _ _) k t x w = elim x [ ]
+  takes_way (star _ _) k t x w = elim x [ ]
 
   opens_way : {x : State} {e : Expr} {K : Context} {p : Path} → Opens s x e K → Way s g (entered e K (place x)) p → Way s g x p
   opens_way here w = w

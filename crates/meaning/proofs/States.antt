@@ -18,19 +18,17 @@ rule_of (finished e K u) = plug e K
 
 -- free moves keep the place and the rule
 pub free_keeps : {s : Site} {x y : State} → Free s x y → (place y ≡ place x) × (rule_of y ≡ rule_of x)
-free_keeps f = elim f [
-  | sequence_in ↦ (refl, refl)
-  | sequence_on ↦ (refl, refl)
-  | sequence_out ↦ (refl, refl)
-  | one_in ↦ (refl, refl)
-  | one_out ↦ (refl, refl)
-  | other_in ↦ (refl, refl)
-  | other_out ↦ (refl, refl)
-  | round_in ↦ (refl, refl)
-  | round_empty v ↦ (refl, refl)
-  | round_again ↦ (refl, refl)
-  | round_out ↦ (refl, refl)
-]
+free_keeps sequence_in = (refl, refl)
+free_keeps sequence_on = (refl, refl)
+free_keeps sequence_out = (refl, refl)
+free_keeps one_in = (refl, refl)
+free_keeps one_out = (refl, refl)
+free_keeps other_in = (refl, refl)
+free_keeps other_out = (refl, refl)
+free_keeps round_in = (refl, refl)
+free_keeps (round_empty v) = (refl, refl)
+free_keeps round_again = (refl, refl)
+free_keeps round_out = (refl, refl)
 
 -- the state is one of the rule's, at one of the terms
 abbrev pub WithinRule : Expr → State → Type 0

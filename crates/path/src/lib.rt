@@ -1,5 +1,7 @@
 // The path that is shown, a step at a time: of the steps that can be taken where the walk stands, the smallest that
 // begins a shortest way.
+#![tactic(auto)]
+
 pub mod choose; // choose.rt: the smallest step that leaves as few as are left
 pub mod enter; // enter.rt: which records can be entered at no cost
 
@@ -22,14 +24,14 @@ use fewest::word::word;
 use records::RECORDS;
 
 // Where a walk stands: before its first step, or after a step of this record.
-#[derive(Drop)]
+#[derive(Clone, Copy)]
 pub enum Stand {
     Begin,
     After(usize),
 }
 
 // One step of a path: its record, its triple (none for self) and the term reached.
-#[derive(Drop)]
+#[derive(Clone, Copy)]
 pub struct Taken {
     pub by: usize,
     pub over: usize,
@@ -37,7 +39,7 @@ pub struct Taken {
 }
 
 // The step to take, or nothing where none can be taken.
-#[derive(Drop)]
+#[derive(Clone, Copy)]
 pub enum Pick {
     Step(Taken),
     Nothing,

@@ -23,7 +23,7 @@ pub struct Parts {
     pub end: u32,
 }
 
-#[derive(Drop)]
+#[derive(Clone, Copy)]
 pub enum SplitAnswer {
     Parts(Parts),
     Refused(Refusal),

@@ -1,5 +1,7 @@
 // The query program: one query from standard input, answered on standard output.
 // It reads and writes; what it writes is `printed::print::print` of what it read.
+#![tactic(auto)]
+
 ghost use Rattle.io.specs.Counts.{IsPrefixLen};
 
 use libc::{STDERR_FILENO, STDIN_FILENO, STDOUT_FILENO};

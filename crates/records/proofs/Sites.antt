@@ -39,6 +39,7 @@ length-site_of s (suc n) = simp (length-append, length-site_of s n) (omega arith
 -- its triple number k is that of record number k
 pub triple_site_of : (s : List ℕ) (n k : ℕ) → k < n → meant.triple (site_of s n) k ≡ triple_of s (k * triple_width)
 unfolding site_of
+triple_site_of s zero k h = elim h [ ]
 triple_site_of s (suc n) k h = ⊎_elim here (earlier (triple_site_of s n k)) (eq-or-lt_of_le (le_of_suc-le-suc h))
   where
     here : k ≡ n → meant.triple (site_of s n ++ (triple_of s (n * triple_width) ∷ [])) k ≡ triple_of s (k * triple_width)

@@ -1,5 +1,7 @@
 // Bytes to triples, rule records and query terms, with document 01's numbered refusals.
 // The limits of document 01 are named here and nowhere else in code.
+#![tactic(auto)]
+
 pub mod bytes; // bytes.rt: numbers as they stand in bytes
 pub mod site; // site.rt: site records, their reader, whole sites
 pub mod rule; // rule.rt: rule records, whole rules, the first record of an expression
@@ -17,7 +19,7 @@ pub const RECORDS: usize = 32;
 pub const NONE: usize = 65535;
 
 // One triple of a site.
-#[derive(Drop)]
+#[derive(Clone, Copy)]
 pub struct Triple {
     pub subject: usize,
     pub predicate: usize,
@@ -25,7 +27,7 @@ pub struct Triple {
 }
 
 // The label of a step: none, a named term, or a test, which is the expression before it.
-#[derive(Drop)]
+#[derive(Clone, Copy)]
 pub enum Label {
     Any,
     Term(usize),
@@ -33,14 +35,14 @@ pub enum Label {
 }
 
 // A step holds its axis (0 self, 1 next, 2 next inverse, 3 edge, 4 edge inverse, 5 node, 6 node inverse) and its label.
-#[derive(Drop)]
+#[derive(Clone, Copy)]
 pub struct Step {
     pub axis: usize,
     pub label: Label,
 }
 
 // One record of a rule.
-#[derive(Drop)]
+#[derive(Clone, Copy)]
 pub enum Record {
     Step(Step),
     Sequence,
@@ -49,7 +51,7 @@ pub enum Record {
 }
 
 // Why an input is refused; document 01's number of each is given once, by `number_of`.
-#[derive(Drop)]
+#[derive(Clone, Copy)]
 pub enum Reason {
     TableLength,
     SiteKind,
@@ -70,7 +72,7 @@ pub enum Reason {
 }
 
 // A refusal: why, and the place.
-#[derive(Drop)]
+#[derive(Clone, Copy)]
 pub struct Refusal {
     pub reason: Reason,
     pub place: usize,

@@ -6,7 +6,7 @@ use crate::bytes::is_term;
 use crate::{Reason, Refusal};
 
 // A query's start or end, or why it is refused.
-#[derive(Drop)]
+#[derive(Clone, Copy)]
 pub enum QueryAnswer {
     Term(usize),
     Refused(Refusal),

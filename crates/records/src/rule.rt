@@ -12,7 +12,7 @@ use crate::{Label, RECORDS, Reason, Record, Refusal, Step, TERMS};
 const LAST_AXIS: usize = 6;
 
 // What stands at a place of a rule: a record and the place of the next, the end, or a refusal.
-#[derive(Drop)]
+#[derive(Clone, Copy)]
 pub enum RuleRecord {
     Record(Record, usize),
     End,
@@ -20,7 +20,7 @@ pub enum RuleRecord {
 }
 
 // The answer to a rule: how many records it has, or why it is refused.
-#[derive(Drop)]
+#[derive(Clone, Copy)]
 pub enum RuleAnswer {
     Rule(usize),
     Refused(Refusal),

@@ -22,7 +22,7 @@ pub const PREDICATE: usize = 4;
 pub const OBJECT: usize = 6;
 
 // What stands at a place of a site.
-#[derive(Drop)]
+#[derive(Clone, Copy)]
 pub enum SiteRecord {
     Triple(Triple),
     End,
@@ -30,7 +30,7 @@ pub enum SiteRecord {
 }
 
 // What a whole site is: so many triples, or refused.
-#[derive(Drop)]
+#[derive(Clone, Copy)]
 pub enum SiteAnswer {
     Site(usize),
     Refused(Refusal),
@@ -138,7 +138,7 @@ pub fn site_record(site: &[u8], at: usize) -> SiteRecord
 }
 
 // What is handed out at a place, and the place where reading goes on.
-#[derive(Drop)]
+#[derive(Clone, Copy)]
 pub struct Handed {
     pub found: SiteRecord,
     pub at: usize,

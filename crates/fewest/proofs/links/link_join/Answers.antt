@@ -1,0 +1,42 @@
+-- `fewest::links::link_join` meets its contract: both operands end before the join.
+use native.Mathlib.Omega.{arith}
+use Rattle.meaning.specs.Limits.{records}
+use Rattle.records.specs.Rules.{records_of}
+use Rattle.fewest.proofs.Operands.{ends_inside, Join, join_operands, joined}
+use Rattle.fewest.proofs.links.link_join.Goals as goal
+use Rattle.fewest.proofs.links.link_join.Goals.{After-first_record-operand}
+
+-- the operands, once the second's first record is found
+found : (c : After-first_record-operand) → let a = c.args in Join (records_of a.rule.now) a.r c.first_record-operand.result
+found c = let p = c.requires in join_operands p.1 p.2 c.first_record-operand.ensures
+
+pub overflow_sub-operand : goal.overflow_sub-operand
+overflow_sub-operand c = (found c).some
+
+pub bounds-up-r : goal.bounds-up-r
+unfolding records
+bounds-up-r c = ends_inside _ c.requires.1
+
+pub bounds-role-r : goal.bounds-role-r
+unfolding records
+bounds-role-r c = ends_inside _ c.requires.1
+
+pub stand-requires : goal.stand-requires
+stand-requires c = omega (arith, ends_inside _ c.requires.1)
+
+pub stand-requires-2 : goal.stand-requires-2
+stand-requires-2 c =
+    omega (arith, found (goal.at.stand-requires-2 c).After-over-1, ends_inside _ c.requires.1)
+
+pub overflow_cast-first : goal.overflow_cast-first
+unfolding records
+overflow_cast-first c =
+    omega (arith, found (goal.at.overflow_cast-first c).After-over-1, ends_inside _ c.requires.1)
+
+pub bounds-first-r : goal.bounds-first-r
+unfolding records
+bounds-first-r c = ends_inside _ c.requires.1
+
+pub returns : goal.returns
+returns c =
+    joined (found (goal.at.returns c).After-way_told-2-1) c.stand.ensures c.stand-2.ensures

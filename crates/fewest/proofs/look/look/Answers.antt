@@ -1,0 +1,58 @@
+-- `fewest::look::look` meets its contract: the triple is the axis's one move by it; nothing lower can be offered, or the label lets
+-- its middle pass and its offer is looked at, or nothing is offered.
+use native.Mathlib.Omega.{arith}
+use Rattle.meaning.specs.Limits.{none}
+use Rattle.fewest.specs.Pairs.{pairs}
+use Rattle.fewest.proofs.Axes.{Terms, moved_terms, moved_taken}
+use Rattle.fewest.proofs.Looks.{look_passes, look_barred, look_low}
+use Rattle.fewest.proofs.look.look.Goals as goal
+use Rattle.fewest.proofs.look.look.Goals.{After-move_at-m}
+
+-- the terms of the triple are terms
+in-terms : (c : After-move_at-m) → Terms c.move_at-m.result
+in-terms c =
+    let pre = c.requires in
+    moved_terms c.move_at-m.ensures pre.0.1 pre.0.2 pre.5
+
+pub number-requires : goal.number-requires
+number-requires c =
+    let pre = c.before.before.before.before.requires in
+    (pre.1, pre.3, (in-terms (goal.at.number-requires c).After-slice_known-1).from)
+
+pub returns-then-number-le1 : goal.returns-then-number-le1
+returns-then-number-le1 c =
+    let args = y.before.before.before.args in
+    λ n a good h so e l. look_low args.label (pairs args.numbers.now) (moved_taken c.move_at-m.ensures good h a so e l)
+    (omega arith)
+
+pub allows-requires : goal.allows-requires
+allows-requires c =
+    let pre = y.before.before.before.requires in
+    (pre.1, pre.3, (in-terms (goal.at.allows-requires c).After-shared_slice_known-1).middle, pre.4)
+
+pub left-rest-requires : goal.left-rest-requires
+left-rest-requires c =
+    let pre = y.before.before.before.requires in
+    (pre.1, pre.2, pre.3, (in-terms (goal.at.left-rest-requires c).Start).to)
+
+pub overflow_add-rest : goal.overflow_add-rest
+unfolding none
+overflow_add-rest c = omega arith
+
+pub lower-requires : goal.lower-requires
+lower-requires c =
+    let pre = y.before.before.before.requires in
+    (pre.1, pre.3, (in-terms (goal.at.lower-requires c).Start).from)
+
+pub returns-then-allows : goal.returns-then-allows
+returns-then-allows c =
+    let args = y.before.before.before.args in
+    λ n a good h so e l. look_passes args.label (pairs args.numbers.now)
+    (moved_taken c.move_at-m.ensures good h a so e l)
+    c.allows.ensures c.if-allows.true (in-terms (goal.at.returns-then-allows c).Start).from c.left-rest.ensures c.lower.ensures
+
+pub returns : goal.returns
+returns c =
+    let args = y.before.before.before.args in
+    λ n a good h so e l. look_barred args.label (pairs args.numbers.now) (moved_taken c.move_at-m.ensures good h a so e l)
+    c.allows.ensures c.if-allows.false

@@ -1,0 +1,41 @@
+-- `records::rule::length_of` meets its contract: each arm is a line of `length_of`.
+use borrow.Author.Tests.{ne_eqb}
+use Rattle.records.specs.Rules.{length_of}
+use Rattle.records.proofs.rule.length_of.Goals as goal
+
+pub returns-in-1 : goal.returns-in-1
+unfolding length_of
+returns-in-1 c = rw c.in-1.is
+
+pub returns-in-2 : goal.returns-in-2
+unfolding length_of
+returns-in-2 c = rw c.in-2.is
+
+pub returns-in-3 : goal.returns-in-3
+unfolding length_of
+returns-in-3 c = rw c.in-3.is
+
+pub returns-in-4 : goal.returns-in-4
+unfolding length_of
+returns-in-4 c = rw c.in-4.is
+
+pub returns-in-5 : goal.returns-in-5
+unfolding length_of
+returns-in-5 c = rw c.in-5.is
+
+pub returns-in-6 : goal.returns-in-6
+unfolding length_of
+returns-in-6 c = rw c.in-6.is
+
+pub returns-in_default : goal.returns-in_default
+unfolding length_of
+returns-in_default c =
+    let other = c.in_default.in_default-own.rest in
+    simp (
+      ne_eqb _ _ other.0.0.0.0.0.1,
+      ne_eqb _ _ other.0.0.0.0.1,
+      ne_eqb _ _ other.0.0.0.1,
+      ne_eqb _ _ other.0.0.1,
+      ne_eqb _ _ other.0.1,
+      ne_eqb _ _ other.1,
+    )
