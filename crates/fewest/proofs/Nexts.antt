@@ -12,7 +12,7 @@ use Rattle.fewest.specs.Next.{Next, on, again, ending, Home, whole}
 use Rattle.fewest.proofs.Roles.{along}
 
 -- what a record's role says of the record b that is entered next, where p is the record below which it has it; the roles are
--- as-whole to as-round, in the order of their numbers
+-- as_whole to as_round, in the order of their numbers
 abbrev pub SaysNext : Frame → (p b : ℕ) → ℕ → Type 0
 SaysNext F p b zero = ⊥
 SaysNext F p b (suc zero) = ⊥

@@ -18,7 +18,7 @@ use Rattle.fewest.specs.Frame.{role_of, up_of, Links, Linked, Frame, frame}
 use Rattle.fewest.specs.Offer.{view, Continues, home, held, on, again, ending}
 
 -- what a record's role says of the number v of steps that may follow, where p is the record below which it has it; the roles
--- are as-whole to as-round, in the order of their numbers
+-- are as_whole to as_round, in the order of their numbers
 abbrev pub Says : Frame → List ℕ → (p u v : ℕ) → ℕ → Type 0
 Says F T p u v zero = v ≡ home_left F.goal u
 Says F T p u v (suc zero) = v ≡ 0
