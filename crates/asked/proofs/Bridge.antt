@@ -53,7 +53,7 @@ module _ {rs : List Rec} {rule : Expr} {L : Links} (x : Expression rs rule) (lin
       Marked M (last e) t → Leads (along L s g) T (last e) t u w → Follows (view M.asked) (λ v. get_or M.ends v 1) e K u
   done_follows e K p i {t} {u} b c m d =
       let at = calm e K p i t c m in
-      all_follows x.numbered linked e K p (record {
+      all_follows x.numbered linked {m = view M.asked} {ends = λ v. get_or M.ends v 1} {u = u} e K p (record {
         next = λ q n. at.asks q u b (follows d n);
         home = λ h. elim (dec_lt u (length M.ends)) [
           | yes l ↦ inside M.ends u 1 0 l ∙ at.arrives u l d h

@@ -84,6 +84,7 @@ calm_stay {F} {T} {l} {r = r} {t} {X} as_step free seen = calm_step l (there l f
     there : (l : Label) → Nameless l → (meant.Voc F.site t → CalmBy F T l r t t X) → Tried F T self l r t X
     there Any free seen k i u (staying x) = rw (x.passes, x.ends) (seen x.rests)
     there Test free seen k i u (staying x) = rw (x.passes, x.ends) (seen x.rests)
+    there (Term _) free seen k i u _ = elim free [ ]
 
 -- one stays at a vocabulary term
 stays : {s : meant.Site} {l : Label} {w : Work} {t : ℕ} → Stay l w → meant.Voc s t → Goes s l w t t t

@@ -72,7 +72,7 @@ module _ {rule : Expr} {L : Links} (numbered : Numbered 0 rule) (linked : Linked
   -- Where all that the arrays say follows is marked, all that the context says follows is.
   pub all_follows : {m : Table} {ends : ℕ → ℕ} {u : ℕ} (e : Expr) (K : Context) → plug e K ≡ rule →
       EachNext (along L s g) m ends u (last e) → Follows m ends e K u
-  all_follows e whole p c = c.home (at_home (linked.roles e whole p))
+  all_follows {m} {ends} {u} e whole p c = c.home (at_home (linked.roles e whole p))
   all_follows e (test r a K) p c = tt
   all_follows e (first_of r b K) p c =
       rw (← operand_before numbered (sequence r e b) K p, ← linked.ups e (first_of r b K) p) (c.next _ (on (linked.roles e (first_of r b K) p)))
@@ -82,9 +82,9 @@ module _ {rule : Expr} {L : Links} (numbered : Numbered 0 rule) (linked : Linked
       all_follows (choice r e b) K p (all_as e (choice r e b) (one_of r b K) K p p refl refl c)
   all_follows e (other_of r a K) p c =
       all_follows (choice r a e) K p (all_as e (choice r a e) (other_of r a K) K p p refl refl c)
-  all_follows e (round_of r K) p c =
+  all_follows {m} {ends} {u} e (round_of r K) p c =
       let up = linked.ups e (round_of r K) p in
       let role = linked.roles e (round_of r K) p in (
         rw (← operand_before numbered (star r e) K p, ← up) (c.next _ (again role)),
-        all_follows (star r e) K p (record { next = λ b n. c.next b (ending role (rw up n)); home = λ h. c.home (ending role (rw up h)) }),
+        all_follows {m = m} {ends = ends} {u = u} (star r e) K p (record { next = λ b n. c.next b (ending role (rw up n)); home = λ h. c.home (ending role (rw up h)) }),
       )

@@ -14,7 +14,7 @@ use Rattle.records.specs.Sites.{Checked}
 use Rattle.records.specs.Rules.{RuleChecked, refusal}
 use Rattle.records.proofs.Sites.{checked_unique}
 use Rattle.records.proofs.Checked.{reads_unique}
-use Rattle.calls.specs.Admission.{AskedOf, Amiss, here, later, Fine, also, Refuses, by_length, by_site, by_rule, by_query, Admits}
+use Rattle.calls.specs.Admission.{AskedOf, Amiss, here, later, Fine, none, also, Refuses, by_length, by_site, by_rule, by_query, Admits}
 
 -- the place of a query's refusal is one place
 amiss_unique : {qs : List AskedOf} {p q : ℕ} → Amiss qs p → Amiss qs q → p ≡ q
@@ -27,6 +27,7 @@ amiss_unique (later h a) (later k b) = amiss_unique a b
 fine_amiss : {qs : List AskedOf} {p : ℕ} → Fine qs → Amiss qs p → ⊥
 fine_amiss (also h f) (here k) = omega arith
 fine_amiss (also h f) (later k a) = fine_amiss f a
+fine_amiss none x = elim x [ ]
 
 -- a site that is refused is not read, nor is a rule
 site_apart : {s : List ℕ} {n : ℕ} {x : Refusal} → Checked s (site.Site n) → Checked s (site.Refused x) → ⊥

@@ -9,7 +9,7 @@ use records::site::{SiteAnswer, check_site};
 use records::{RECORDS, Reason, Refusal};
 
 // A site and a rule that were read, and the query's terms.
-#[derive(Drop)]
+#[derive(Clone, Copy)]
 pub struct Query {
     pub triples: usize,
     pub count: usize,

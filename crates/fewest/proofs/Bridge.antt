@@ -51,7 +51,7 @@ module _ {rs : List Rec} {rule : Expr} {L : Links} {s : Site} {g : Goal} (x : Ex
         (stored T (place r t) v (entry_inside T (place r t) l) (place (last e) u));
   }
 
-  pub lowers_sound : {T U : List ℕ} {r : ℕ} {w : Work} → Within s → Memᴰ w (works_of (get_or rs r starring) r (get_or L.first r 0)) →
+  pub lowers_sound : {r : ℕ} {w : Work} {T U : List ℕ} → Within s → Memᴰ w (works_of (get_or rs r starring) r (get_or L.first r 0)) →
       Lowers (along L s g) w r T U → Bounded T → Sound s g rule (view T) → Sound s g rule (view U)
   lowers_sound ok i stay b sound = sound
   lowers_sound ok i (lower q h o l) b sound = store_sound ok i h o l (lowers_bounded q b) (lowers_sound ok i q b sound)

@@ -1,8 +1,8 @@
 -- A record's row is lowered by staying: at each vocabulary term, for an empty round or a self without a name, or at a name.
 -- Each term seen and told whether it is a vocabulary term, every one of these was seen.
 use Prim.Native.Nat.{ℕ, ◌*◌, ◌<◌, ◌≤◌}
-use mathlib.Core.Path.{◌≡◌}
-use mathlib.Core.Logic.{◌⊎◌, ⊎_elim}
+use mathlib.Core.Path.{◌≡◌, refl}
+use mathlib.Core.Logic.{◌⊎◌, ◌≢◌, ⊎_elim}
 use mathlib.Core.Bool.{Bool, true, false, cond}
 use mathlib.Core.List.{List, [], ◌∷◌}
 use native.Mathlib.Omega.{arith}
@@ -42,10 +42,10 @@ module _ (b : List ℕ) {n k : ℕ} {x : Triple} (here : x ≡ in_code (triple_o
   object_is = rw (here, triple_site_of b n k h)
 
 -- A label whose variant is not the named one has no name.
-pub nameless : (l : Label) → OneOf (0 ∷ (2 ∷ [])) (tag_of the_type l) → Nameless l
-nameless Any tag = tt
-nameless (Term n) tag = ⊎_elim (λ e. absurd (omega arith)) (λ e. absurd (omega arith)) tag
-nameless Test tag = tt
+pub nameless : (l : Label) → ((n : ℕ) → l ≢ Term n) → Nameless l
+nameless Any other = tt
+nameless (Term n) other = absurd (other n refl)
+nameless Test other = tt
 
 -- where no name is given, staying is offered at vocabulary terms only
 at_words : {F : Frame} {T : List ℕ} {r t v : ℕ} (l : Label) (empty : Bool) → Nameless l →
@@ -54,6 +54,7 @@ at_words Any true free (by_rest x c) = x
 at_words Any false free (by_step (staying x) c) = x.rests
 at_words Test true free (by_rest x c) = x
 at_words Test false free (by_test (staying x) h c) = x.rests
+at_words (Term _) empty free _ = elim free [ ]
 
 -- what is seen of staying at a term: at a vocabulary term nothing lower is offered
 abbrev pub AtWord : Frame → Work → ℕ → ℕ → List ℕ → Type 0

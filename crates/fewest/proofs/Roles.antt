@@ -44,6 +44,7 @@ module _ {F : Frame} {T : List ℕ} where
   says_continues (suc (suc zero)) q e = rw e (on q)
   says_continues (suc (suc (suc zero))) q (inl e) = rw e (again q)
   says_continues (suc (suc (suc zero))) q (inr c) = ending q c
+  says_continues (suc (suc (suc (suc _)))) q e = elim e [ ]
 
 -- the last record of the operand that comes last (a plain or named step has none, and it does not matter what stands there)
 abbrev pub last_operand : Expr → ℕ

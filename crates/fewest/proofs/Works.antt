@@ -45,7 +45,7 @@ by_work : {F : Frame} {T : List ℕ} {r t v : ℕ} {w z : Work} → w ≡ z → 
 by_work {F} {T} {r} {t} {v} e o = subst (λ w. Offer F T r t w v) e o
 
 -- what a copy offers is what it copies
-copied : {F : Frame} {T : List ℕ} {r t v q : ℕ} → Offer F T r t (copying q) v → v ≡ view T q t
+copied : {F : Frame} {T : List ℕ} {r t q v : ℕ} → Offer F T r t (copying q) v → v ≡ view T q t
 copied by_row = refl
 
 module _ {rs : List Rec} {rule : Expr} {L : Links} (x : Expression rs rule) (linked : Linked rule L) {s : Site} {g : Goal} {T : List ℕ}

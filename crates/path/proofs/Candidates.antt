@@ -10,7 +10,7 @@ use Rattle.meaning.specs.Limits.{terms, none}
 use Rattle.meaning.specs.Site.{Site, Within}
 use Rattle.meaning.specs.Move.{Axis, Move, any}
 use Rattle.meaning.specs.Relation.{Holds}
-use Rattle.meaning.specs.Expression.{Rec, plain, testing, joining, choosing, starring, Expr, step, tested, last, Context, test, plug}
+use Rattle.meaning.specs.Expression.{Rec, plain, testing, joining, choosing, starring, Expr, step, tested, last, Context, test, plug, sequence, choice, star}
 use Rattle.meaning.specs.Fewest.{Goal, State, finished, Way, Fewest, Numbers}
 use Rattle.meaning.specs.Left.{left}
 use Rattle.meaning.proofs.Moves.{move_passes, move_reaches, among}
@@ -43,6 +43,9 @@ carries_by (by_test {m = m} q move h) = rw q (m, move, h)
 takes_among : {s : Site} → Within s → (e : Expr) (k u : ℕ) {t : ℕ} → t < terms → Takes s e k t u → u < terms
 takes_among ok (step r a l) k u b (m, move) = among ok b (move_reaches move)
 takes_among ok (tested r a y) k u b (m, move, holds) = among ok b (move_reaches move)
+takes_among ok (sequence _ _ _) k u b x = elim x [ ]
+takes_among ok (choice _ _ _) k u b x = elim x [ ]
+takes_among ok (star _ _) k u b x = elim x [ ]
 
 module _ {rs : List Rec} {rule : Expr} {L : Links} {s : Site} {g : Goal} {T : List ℕ} (known : Known rs rule L s g T) where
   -- the row before a tested step tells where its test holds
@@ -56,6 +59,9 @@ module _ {rs : List Rec} {rule : Expr} {L : Links} {s : Site} {g : Goal} {T : Li
   own_takes : (e : Expr) (K : Context) (k u : ℕ) {t : ℕ} → plug e K ≡ rule → t < terms → CarriesBy s T (last e) k t u (own e) → Takes s e k t u
   own_takes (step r a l) K k u p b c = c
   own_takes (tested r a y) K k u p b (m, move, h) = (m, move, (test_holds r a y K p b move).0 h)
+  own_takes (sequence _ _ _) K k u p b c = elim c [ ]
+  own_takes (choice _ _ _) K k u p b c = elim c [ ]
+  own_takes (star _ _) K k u p b c = elim c [ ]
 
   -- What a record carries is what its step takes.
   carries_takes : (e : Expr) (K : Context) {k t u : ℕ} → plug e K ≡ rule → t < terms → Carries (along L s g) T rs (last e) k t u → Takes s e k t u
@@ -65,6 +71,9 @@ module _ {rs : List Rec} {rule : Expr} {L : Links} {s : Site} {g : Goal} {T : Li
   takes_carries (step r a l) K p b (m, move) = by_step (own_record known.expression (step r a l) K p) move
   takes_carries (tested r a y) K p b (m, move, holds) =
       by_test (own_record known.expression (tested r a y) K p) move ((test_holds r a y K p b move).1 holds)
+  takes_carries (sequence _ _ _) K p b x = elim x [ ]
+  takes_carries (choice _ _ _) K p b x = elim x [ ]
+  takes_carries (star _ _) K p b x = elim x [ ]
 
   -- What may follow at the least is what is left, and so the fewest steps of a way from there.
   least_fewest : (e : Expr) (K : Context) {u d : ℕ} → plug e K ≡ rule → u < terms → Continues (along L s g) T (last e) u d →

@@ -4,6 +4,7 @@ use Prim.Native.Nat.{ℕ, ◌+◌, ◌-◌, ◌<◌}
 use mathlib.Core.Path.{◌≡◌, refl, sym, ap, subst, ◌∙◌}
 use mathlib.Core.Logic.{⊎_elim}
 use mathlib.Core.List.{List, Memᴰ}
+use mathlib.Core.List.Memᴰ
 use native.Mathlib.Omega.{arith}
 use lib.ListN.{length, get_or}
 use Rattle.meaning.specs.Site.{Site, Voc}
@@ -74,6 +75,11 @@ works_open s (choice r a c) K t (Memᴰ.head q) = rw q (a, one_of r c K, through
 works_open s (choice r a c) K t (Memᴰ.tail (Memᴰ.head q)) = rw q (c, other_of r a K, through other_in here, refl)
 works_open s (star r a) K t (Memᴰ.head q) = rw q (a, round_of r K, through round_in here, refl)
 works_open s (star r a) K t (Memᴰ.tail (Memᴰ.head q)) = rw q tt
+works_open s (step r a l) K t (Memᴰ.tail m) = absurd (Memᴰ.not-nil m)
+works_open s (tested r a y) K t (Memᴰ.tail m) = absurd (Memᴰ.not-nil m)
+works_open s (sequence r a c) K t (Memᴰ.tail m) = absurd (Memᴰ.not-nil m)
+works_open s (choice r a c) K t (Memᴰ.tail (Memᴰ.tail m)) = absurd (Memᴰ.not-nil m)
+works_open s (star r a) K t (Memᴰ.tail (Memᴰ.tail m)) = absurd (Memᴰ.not-nil m)
 
 -- the record is a star's
 abbrev IsStar : Rec → Type 0
@@ -111,9 +117,13 @@ module _ {rs : List Rec} {rule : Expr} {L : Links} (x : Expression rs rule) (lin
   star_opens : (e : Expr) (K : Context) {t b : ℕ} → plug e K ≡ rule → IsStar (own e) → Voc s t →
       Next (along L s g) (last e) b → OpensRecord s (entered e K t) b
   star_opens (star r a) K p q v n = opens_through (round_empty v) (next_opens (star r a) K p n)
+  star_opens (step _ _ _) K p q v n = elim q [ ]
+  star_opens (tested _ _ _) K p q v n = elim q [ ]
+  star_opens (sequence _ _ _) K p q v n = elim q [ ]
+  star_opens (choice _ _ _) K p q v n = elim q [ ]
 
   -- What may be entered where the walk stands, free moves of its state lead to.
-  pub enters_opens : {y : State} {z : Stand} {t b : ℕ} → Stands rule z t y → Enters (along L s g) rs L.first t z b → OpensRecord s y b
+  pub enters_opens : {y : State} {t : ℕ} {z : Stand} {b : ℕ} → Stands rule z t y → Enters (along L s g) rs L.first t z b → OpensRecord s y b
   enters_opens at_begin (begin h) = (rule, whole, here, omega (arith, rule_last x))
   enters_opens (at_end {e} {K} p q) (after n) = next_opens e K p (rw (← q) at n)
   enters_opens {t = t} stands (inward i h m) =

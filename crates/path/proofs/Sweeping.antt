@@ -47,6 +47,8 @@ lead_copies choosing (to_one e) = inl (Memᴰ.head (ap copying e))
 lead_copies choosing (to_other e) = inl (Memᴰ.tail (Memᴰ.head (ap copying e)))
 lead_copies starring (to_round e) = inl (Memᴰ.head (ap copying e))
 lead_copies starring (flags.past w n) = inr (refl, w, n)
+lead_copies (plain _ _) x = elim x [ ]
+lead_copies (testing _) x = elim x [ ]
 
 -- What can be entered is entered by what the flags ask, and by nothing else.
 module _ {up role : List ℕ} {rs : List Rec} {first : List ℕ} {word : Bool} {s : Site} {g : Goal} {t : ℕ} (tell : Tells (Voc s t) word) where

@@ -26,12 +26,12 @@ stand-requires c = omega (arith, ends_inside _ c.requires.1)
 
 pub stand-requires-2 : goal.stand-requires-2
 stand-requires-2 c =
-    omega (arith, found (goal.at.stand-requires-2 c).After-over-1, ends_inside _ c.requires.1)
+    omega (arith, found (goal.at.stand-requires-2 c).After-first_record-operand, ends_inside _ c.requires.1)
 
 pub overflow_cast-first : goal.overflow_cast-first
 unfolding records
 overflow_cast-first c =
-    omega (arith, found (goal.at.overflow_cast-first c).After-over-1, ends_inside _ c.requires.1)
+    omega (arith, found (goal.at.overflow_cast-first c).After-first_record-operand, ends_inside _ c.requires.1)
 
 pub bounds-first-r : goal.bounds-first-r
 unfolding records
@@ -39,4 +39,4 @@ bounds-first-r c = ends_inside _ c.requires.1
 
 pub returns : goal.returns
 returns c =
-    joined (found (goal.at.returns c).After-way_told-2-1) c.stand.ensures c.stand-2.ensures
+    joined (found (goal.at.returns c).After-first_record-operand) c.stand.ensures c.stand-2.ensures

@@ -1,39 +1,44 @@
 -- `fewest::links::link_record` meets its contract: the record that is read is the rule's, and each arm is a line of `standing`.
 use mathlib.Core.Path.{◌≡◌, refl, sym, ap, ◌∙◌}
+use Prim.Native.Nat.{ℕ}
+use mathlib.Core.List.{List}
 use native.Mathlib.Omega.{arith}
 use lib.ListN.{get_or}
 use Rattle.meaning.specs.Limits.{records}
 use Rattle.meaning.specs.Expression.{testing, joining, choosing, starring, operands}
 use Rattle.meaning.specs.Move.{any, only}
-use Rattle.records.specs.Rules.{rec_of, labelled, axis_numbered, records_of}
+use Rattle.records.specs.Rules.{rec_of, labelled, axis_numbered, record_at, starts_of, records_of, Front}
+use Rattle.records.specs.First.{Ends}
+use Rattle.records.specs.declared.Record.{Record}
 use Rattle.records.proofs.First.{first_below}
 use Rattle.records.proofs.Starts.{front_record}
 use Rattle.fewest.specs.Frame.{as_test}
 use Rattle.fewest.proofs.Operands.{ends_inside, has_operand, stood_none, stood_one, stood_join}
 use Rattle.fewest.proofs.links.link_record.Goals as goal
-use Rattle.fewest.proofs.links.link_record.Goals.{After-record_of-rec, In-Choice, In-Sequence, In-Star, In-Step, In-Test}
+use Rattle.fewest.proofs.links.link_record.Goals.{In-Choice, In-Sequence, In-Star, In-Step, In-Test}
 
 -- record number r is the one that is read
-this : (c : After-record_of-rec) → let a = c.args in get_or (records_of a.rule.now) a.r starring ≡ rec_of c.record_of-rec.result
-this c =
-    front_record _ c.requires.0 c.args.r (first_below c.requires.1.1) ∙ ap rec_of (sym c.record_of-rec.ensures)
+this : (rule starts : List ℕ) (r : ℕ) (x : Record) → Front (starts_of rule) starts → Ends (records_of rule) r →
+    x ≡ record_at rule (get_or starts r 0) → get_or (records_of rule) r starring ≡ rec_of x
+this rule starts r x front ends e = front_record rule front r (first_below ends.1) ∙ ap rec_of (sym e)
 
 -- it is a step with this label,
-a-step : (c : In-Step) → let a = c.args in let x = c.in-Step.step in get_or (records_of a.rule.now) a.r starring ≡ labelled (axis_numbered x.axis) x.label
-a-step c = this (goal.at.? c).After-record_of-rec ∙ ap rec_of c.in-Step.is
+a_step : (c : In-Step) → let a = c.args in let x = c.in-Step.step in get_or (records_of a.rule.now) a.r starring ≡ labelled (axis_numbered x.axis) x.label
+a_step c = this _ _ _ _ c.requires.0 c.requires.1 c.record_of-rec.ensures ∙ ap rec_of c.in-Step.is
 
 tested : (c : In-Test) → let a = c.args in get_or (records_of a.rule.now) a.r starring ≡ testing (axis_numbered c.in-Step.step.axis)
-tested c = a-step (goal.at.? c).In-Step ∙ ap (labelled (axis_numbered _)) c.in-Test.is
+tested c =
+    this _ _ _ _ c.requires.0 c.requires.1 c.record_of-rec.ensures ∙ ap rec_of c.in-Step.is ∙ ap (labelled (axis_numbered _)) c.in-Test.is
 
 -- or the record of the arm.
-a-sequence : (c : In-Sequence) → let a = c.args in get_or (records_of a.rule.now) a.r starring ≡ joining
-a-sequence c = this (goal.at.? c).After-record_of-rec ∙ ap rec_of c.in-Sequence.is
+a_sequence : (c : In-Sequence) → let a = c.args in get_or (records_of a.rule.now) a.r starring ≡ joining
+a_sequence c = this _ _ _ _ c.requires.0 c.requires.1 c.record_of-rec.ensures ∙ ap rec_of c.in-Sequence.is
 
-a-choice : (c : In-Choice) → let a = c.args in get_or (records_of a.rule.now) a.r starring ≡ choosing
-a-choice c = this (goal.at.? c).After-record_of-rec ∙ ap rec_of c.in-Choice.is
+a_choice : (c : In-Choice) → let a = c.args in get_or (records_of a.rule.now) a.r starring ≡ choosing
+a_choice c = this _ _ _ _ c.requires.0 c.requires.1 c.record_of-rec.ensures ∙ ap rec_of c.in-Choice.is
 
-a-star : (c : In-Star) → let a = c.args in get_or (records_of a.rule.now) a.r starring ≡ starring
-a-star c = this (goal.at.? c).After-record_of-rec ∙ ap rec_of c.in-Star.is
+a_star : (c : In-Star) → let a = c.args in get_or (records_of a.rule.now) a.r starring ≡ starring
+a_star c = this _ _ _ _ c.requires.0 c.requires.1 c.record_of-rec.ensures ∙ ap rec_of c.in-Star.is
 
 pub record_of-rec-requires : goal.record_of-rec-requires
 record_of-rec-requires c = ends_inside _ c.requires.1
@@ -57,7 +62,7 @@ overflow_cast-r-in-Sequence c = omega (arith, ends_inside _ c.requires.1)
 
 pub link_join-requires : goal.link_join-requires
 link_join-requires c =
-    let p = c.requires in (p.0, p.1, ap operands (a-sequence (goal.at.link_join-requires c).In-Sequence))
+    let p = c.requires in (p.0, p.1, ap operands (a_sequence (goal.at.link_join-requires c).In-Sequence))
 
 pub bounds-up-r : goal.bounds-up-r
 unfolding records
@@ -69,11 +74,11 @@ bounds-role-r c = ends_inside _ c.requires.1
 
 pub link_join-requires-in-Choice : goal.link_join-requires-in-Choice
 link_join-requires-in-Choice c =
-    let p = c.requires in (p.0, p.1, ap operands (a-choice (goal.at.link_join-requires-in-Choice c).After-link_join-arg-in-Choice-1))
+    let p = c.requires in (p.0, p.1, ap operands (a_choice (goal.at.link_join-requires-in-Choice c).In-Choice))
 
 pub overflow_sub-r-in-Star : goal.overflow_sub-r-in-Star
 overflow_sub-r-in-Star c =
-    has_operand starring c.requires.1 (a-star (goal.at.overflow_sub-r-in-Star c).In-Star) (λ h. omega arith)
+    has_operand starring c.requires.1 (a_star (goal.at.overflow_sub-r-in-Star c).In-Star) (λ h. omega arith)
 
 pub overflow_cast-r-in-Star : goal.overflow_cast-r-in-Star
 unfolding records
@@ -83,16 +88,16 @@ pub stand-requires-in-Star : goal.stand-requires-in-Star
 stand-requires-in-Star c = omega (arith, ends_inside _ c.requires.1)
 
 pub returns-in-Any : goal.returns-in-Any
-returns-in-Any c = stood_none _ any (a-step (goal.at.returns-in-Any c).In-Step ∙ ap (labelled (axis_numbered _)) c.in-Any.is)
+returns-in-Any c = stood_none _ any (a_step (goal.at.returns-in-Any c).In-Step ∙ ap (labelled (axis_numbered _)) c.in-Any.is)
 
 pub returns-in-Term : goal.returns-in-Term
-returns-in-Term c = stood_none _ (only _) (a-step (goal.at.returns-in-Term c).In-Step ∙ ap (labelled (axis_numbered _)) c.in-Term.is)
+returns-in-Term c = stood_none _ (only _) (a_step (goal.at.returns-in-Term c).In-Step ∙ ap (labelled (axis_numbered _)) c.in-Term.is)
 
 pub returns-in-Test : goal.returns-in-Test
 returns-in-Test c = stood_one (testing _) as_test (tested (goal.at.returns-in-Test c).In-Test) refl (λ L. refl) c.stand.ensures
 
 pub returns-in-Sequence : goal.returns-in-Sequence
-returns-in-Sequence c = stood_join joining (a-sequence (goal.at.returns-in-Sequence c).In-Sequence) (λ f. refl) c.link_join.ensures
+returns-in-Sequence c = stood_join joining (a_sequence (goal.at.returns-in-Sequence c).In-Sequence) (λ f. refl) c.link_join.ensures
 
 pub returns-in-Choice : goal.returns-in-Choice
-returns-in-Choice c = stood_join choosing (a-choice (goal.at.returns-in-Choice c).After-link_join-arg-in-Choice-1) (λ f. refl) c.link_join-in-Choice.ensures
+returns-in-Choice c = stood_join choosing (a_choice (goal.at.returns-in-Choice c).In-Choice) (λ f. refl) c.link_join-in-Choice.ensures

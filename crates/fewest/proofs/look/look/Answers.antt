@@ -16,24 +16,24 @@ in-terms c =
 
 pub number-requires : goal.number-requires
 number-requires c =
-    let pre = c.before.before.before.before.requires in
-    (pre.1, pre.3, (in-terms (goal.at.number-requires c).After-slice_known-1).from)
+    let pre = c.requires in
+    (pre.1, pre.3, (in-terms c).from)
 
 pub returns-then-number-le1 : goal.returns-then-number-le1
 returns-then-number-le1 c =
-    let args = y.before.before.before.args in
+    let args = c.args in
     λ n a good h so e l. look_low args.label (pairs args.numbers.now) (moved_taken c.move_at-m.ensures good h a so e l)
     (omega arith)
 
 pub allows-requires : goal.allows-requires
 allows-requires c =
-    let pre = y.before.before.before.requires in
-    (pre.1, pre.3, (in-terms (goal.at.allows-requires c).After-shared_slice_known-1).middle, pre.4)
+    let pre = c.requires in
+    (pre.1, pre.3, (in-terms (goal.at.allows-requires c).After-move_at-m).middle, pre.4)
 
 pub left-rest-requires : goal.left-rest-requires
 left-rest-requires c =
-    let pre = y.before.before.before.requires in
-    (pre.1, pre.2, pre.3, (in-terms (goal.at.left-rest-requires c).Start).to)
+    let pre = c.requires in
+    (pre.1, pre.2, pre.3, (in-terms (goal.at.left-rest-requires c).After-move_at-m).to)
 
 pub overflow_add-rest : goal.overflow_add-rest
 unfolding none
@@ -41,18 +41,18 @@ overflow_add-rest c = omega arith
 
 pub lower-requires : goal.lower-requires
 lower-requires c =
-    let pre = y.before.before.before.requires in
-    (pre.1, pre.3, (in-terms (goal.at.lower-requires c).Start).from)
+    let pre = c.requires in
+    (pre.1, pre.3, (in-terms (goal.at.lower-requires c).After-move_at-m).from)
 
 pub returns-then-allows : goal.returns-then-allows
 returns-then-allows c =
-    let args = y.before.before.before.args in
+    let args = c.args in
     λ n a good h so e l. look_passes args.label (pairs args.numbers.now)
     (moved_taken c.move_at-m.ensures good h a so e l)
-    c.allows.ensures c.if-allows.true (in-terms (goal.at.returns-then-allows c).Start).from c.left-rest.ensures c.lower.ensures
+    c.allows.ensures c.if-allows.true (in-terms (goal.at.returns-then-allows c).After-move_at-m).from c.left-rest.ensures c.lower.ensures
 
 pub returns : goal.returns
 returns c =
-    let args = y.before.before.before.args in
+    let args = c.args in
     λ n a good h so e l. look_barred args.label (pairs args.numbers.now) (moved_taken c.move_at-m.ensures good h a so e l)
     c.allows.ensures c.if-allows.false

@@ -1,6 +1,5 @@
 -- `fewest::rows::step_quiet` meets its contract: the row bounds what is left, and no triple lowers an entry to one more than it.
 use borrow.Author.Rules.{rules}
-use borrow.Author.Tests.{not-false}
 use mathlib.Core.Path.{refl}
 use Rattle.meaning.specs.Limits.{records}
 use Rattle.records.proofs.Sites.{length-site_of}
@@ -19,5 +18,5 @@ keep_all-requires c = search rules
 pub returns : goal.returns
 returns c =
     λ yes takes known.
-    step_kept c.args.step.label (axis_takes _ takes) (c.bounds.ensures (not-false _ c.if-not-bounds.false))
+    step_kept c.args.step.label (axis_takes _ takes) (c.bounds.ensures c.if-not-bounds.false)
     (λ k h. let here = rw length-site_of at h in c.keep_all.ensures yes k here _ _ c.requires.0 here refl takes known)

@@ -14,4 +14,4 @@ sweep-requires c = let pre = c.requires in (pre.0, c.loop-goal.invariant.0 ∙ p
 pub loop-goal-preserved : goal.loop-goal-preserved
 loop-goal-preserved c =
     let inv = c.loop-goal.invariant in
-    (c.sweep.auto.1.1.1.1.1.1.1.1.1.1.0 ∙ inv.0, settles_then inv.1 c.sweep.ensures.reached)
+    (c.sweep.auto.numbers ∙ inv.0, settles_then inv.1 c.sweep.ensures.reached)

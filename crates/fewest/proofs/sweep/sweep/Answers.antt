@@ -36,7 +36,7 @@ loop-r-preserved c =
     let ready = c.requires.0 in
     let at = c.loop-r in (
       omega arith,
-      c.sweep_record-changed.auto.1.1.1.1.1.1.1.1.0 ∙ at.invariant.1,
+      c.sweep_record-changed.auto.numbers ∙ at.invariant.1,
       seen_more settles_chain at.invariant.2
           (record_swept (rw (← ready.counted) c.loop-r-test.true)
           (ap rec_of c.record_of-rec.ensures ∙ ready.reads at.r c.loop-r-test.true)

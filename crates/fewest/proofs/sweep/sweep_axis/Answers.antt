@@ -21,7 +21,7 @@ pub loop-k-preserved : goal.loop-k-preserved
 loop-k-preserved c =
     let inv = c.loop-k.invariant in (
       omega arith,
-      c.look-changed.auto.1.1.1.1.1.1.1.0 ∙ inv.1,
+      c.look-changed.auto.numbers ∙ inv.1,
       λ a so takes known. seen_more lowers_chain (inv.2 a so takes known)
           (c.look-changed.ensures _ a c.requires.0 c.loop-k-test.true so takes known),
     )

@@ -10,7 +10,7 @@ pub sweep_row-requires-in-Choice : goal.sweep_row-requires-in-Choice
 unfolding Full
 sweep_row-requires-in-Choice c =
     let pre = c.requires in
-    (c.sweep_row-one.auto.0 ∙ pre.1, pre.3, omega (arith, pre.3))
+    (c.sweep_row-one.auto.numbers ∙ pre.1, pre.3, omega (arith, pre.3))
 
 pub returns-in-Step : goal.returns-in-Step
 returns-in-Step c =

@@ -1,6 +1,5 @@
 use Prim.Native.Nat.{ℕ, ◌-◌}
 use mathlib.Core.Path.{◌≡◌, ap, ◌∙◌}
-use mathlib.Core.Logic.{⊎_elim}
 use mathlib.Core.List.{List}
 use native.Mathlib.Omega.{arith}
 use lib.ListN.{length}
@@ -16,7 +15,7 @@ use Rattle.fewest.proofs.Sweeps.{lowers_chain}
 use Rattle.fewest.proofs.Loops.{seen_none, seen_more}
 use Rattle.fewest.proofs.Resting.{AtWord, word_looked, word_passed, words_swept}
 use Rattle.fewest.proofs.sweep.sweep_rests.Goals as goal
-use Rattle.fewest.proofs.sweep.sweep_rests.Goals.{Joined-word}
+use Rattle.fewest.proofs.sweep.sweep_rests.Goals.{Joined-word, then-word, else-word}
 
 -- where the arms meet, the term was looked at, or it is no vocabulary term
 seen_here : (c : Joined-word) → let at = c.loop-t in let args = c.args in (length c.if-word.numbers ≡ length at.numbers) × ((s : List ℕ) → Threads s args.triples args.scratch.now → (args.cost ≡ 0 → args.label ≡ Any) → let F = frame (site_of s args.triples) args.up.now args.role.now (goal_of args.goal) in Looks F (staying args.cost args.label) args.r (AtWord F (staying args.cost args.label) args.r at.t) (pairs at.numbers) (pairs c.if-word.numbers) at.changed c.if-word.changed)
@@ -24,16 +23,20 @@ unfolding terms
 seen_here c =
     let args = c.args in
     let below = c.loop-t-test.true in
-    ⊎_elim
-    (λ w. (
-      ap length w.5 ∙ w.2.kept.1.1.1.0,
-      λ s threads any. rw (w.5, w.6) (word_looked (c.word.ensures s threads below) args.label args.cost w.0.taken any w.2.ensures),
-    ))
-    (λ w. (
-      ap length w.1,
-      λ s threads any. rw (w.1, w.2) (word_passed (c.word.ensures s threads below) (staying args.cost args.label) w.0.left),
-    ))
-    c.if-word.branch
+    elim c.if-word.branch [
+      | then-word w ↦ (
+        c.if-word.auto.numbers,
+        λ s threads any.
+            rw (w.numbers-is, w.changed-is)
+            (word_looked (c.word.ensures s threads below) args.label args.cost w.if-word.true any w.rest-changed.ensures),
+      )
+      | else-word w ↦ (
+        c.if-word.auto.numbers,
+        λ s threads any.
+            rw (w.numbers-is, w.changed-is)
+            (word_passed (c.word.ensures s threads below) (staying args.cost args.label) w.if-word.false),
+      )
+    ]
 
 pub loop-t-init : goal.loop-t-init
 loop-t-init c = (omega arith, omega arith, λ s threads any. seen_none lowers_chain)

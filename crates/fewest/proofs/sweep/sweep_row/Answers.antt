@@ -1,7 +1,6 @@
 use Prim.Native.Nat.{◌-◌}
 use mathlib.Core.Path.{◌∙◌}
 use native.Mathlib.Omega.{arith}
-use borrow.Author.Tests.{not-true}
 use Rattle.meaning.specs.Limits.{terms}
 use Rattle.fewest.specs.Table.{Full}
 use Rattle.fewest.proofs.Sweeps.{lowers_chain, swept_none}
@@ -10,7 +9,7 @@ use Rattle.fewest.proofs.Rowwise.{copied, row_looked, row_swept}
 use Rattle.fewest.proofs.sweep.sweep_row.Goals as goal
 
 pub returns-then-not-above : goal.returns-then-not-above
-returns-then-not-above c = λ F. swept_none lowers_chain (λ t v h o. copied o (c.above.ensures (not-true _ c.if-not-above.true) t h))
+returns-then-not-above c = λ F. swept_none lowers_chain (λ t v h o. copied o (c.above.ensures c.if-not-above.true t h))
 
 pub loop-t-init : goal.loop-t-init
 loop-t-init c = (omega arith, omega arith, λ F. seen_none lowers_chain)
@@ -32,7 +31,7 @@ unfolding terms
 loop-t-preserved c =
     let inv = c.loop-t.invariant in (
       omega arith,
-      c.lower-changed.auto.0 ∙ inv.1,
+      c.lower-changed.auto.numbers ∙ inv.1,
       λ F. seen_more lowers_chain (inv.2 F)
           (row_looked c.loop-t-test.true c.number-v.ensures.0 c.lower-changed.ensures),
     )

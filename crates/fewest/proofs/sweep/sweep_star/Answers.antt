@@ -14,8 +14,8 @@ returns-then-star_quiet c = λ s threads.
 pub sweep_rests-requires : goal.sweep_rests-requires
 unfolding Full
 sweep_rests-requires c =
-    let pre = c.before.before.before.before.before.before.before.before.before.before.requires in
-    (c.sweep_row-one.auto.0 ∙ pre.0, pre.1, pre.2, tt, omega arith)
+    let pre = c.requires in
+    (c.sweep_row-one.auto.numbers ∙ pre.0, pre.1, pre.2, tt, omega arith)
 
 pub returns : goal.returns
 returns c = λ s threads.

@@ -45,4 +45,4 @@ returns-in-Term-label c = λ known.
 pub returns : goal.returns
 returns c = λ known.
     rw (self_axis _ c.if-step-ne0.false)
-    (c.sweep_rests.ensures _ c.requires.5 (nameless c.args.step.label c.in_default-label.in_default-label-own.keys2) (λ e. absurd (omega arith)))
+    (c.sweep_rests.ensures _ c.requires.5 (nameless c.args.step.label c.in_default-label.not-Term) (λ e. absurd (omega arith)))

@@ -30,7 +30,7 @@ pub loop-k-preserved : goal.loop-k-preserved
 loop-k-preserved c =
     let inv = c.loop-k.invariant in
     let look = c.look-changed.ensures _ c.args.step.axis c.requires.0 c.loop-k-test.true c.parts_of-parts.ensures in (
-      c.look-changed.auto.1.1.1.1.1.1.1.0 ∙ inv.0,
+      c.look-changed.auto.numbers ∙ inv.0,
       λ takes known. lowers_then (inv.1 takes known) (look takes known).reached,
       λ takes known threads place at others.
           let (own, seen) = inv.2 takes known threads place at others in

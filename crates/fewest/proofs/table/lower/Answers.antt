@@ -15,11 +15,11 @@ put-requires c = (omega arith, omega arith)
 
 pub returns-then-v-get : goal.returns-then-v-get
 returns-then-v-get c =
-    lowered_yes (pairs c.before.before.before.before.before.before.before.before.before.args.numbers.now) _ _
+    lowered_yes (pairs c.args.numbers.now) _ _
     c.entry-i.ensures.0 c.get.ensures.0
     _ c.if-v-get.true c.put.ensures
 
 pub returns : goal.returns
 returns c =
-    lowered_no (pairs c.before.before.before.before.before.args.numbers.now) _ _
+    lowered_no (pairs c.args.numbers.now) _ _
     c.entry-i.ensures.0 c.get.ensures.0 _ c.if-v-get.false

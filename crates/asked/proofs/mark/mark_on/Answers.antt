@@ -1,0 +1,35 @@
+-- `asked::mark::mark_on` meets its contract: nothing is new, or what is new was marked; the queue stands aside.
+use mathlib.Core.Path.{◌∙◌}
+use native.Mathlib.Omega.{arith}
+use Rattle.meaning.specs.Limits.{terms, triples, records}
+use Rattle.asked.specs.Seek.{Whole}
+use Rattle.asked.proofs.Serving.{set_marked, set_there, marked_aside}
+use Rattle.asked.proofs.mark.mark_on.Goals as goal
+
+pub overflow_mul-t : goal.overflow_mul-t
+unfolding terms
+overflow_mul-t c = omega arith
+
+pub overflow_add-t : goal.overflow_add-t
+unfolding terms
+overflow_add-t c = omega arith
+
+pub word-old-requires : goal.word-old-requires
+unfolding Whole terms triples records
+word-old-requires c = omega arith
+
+pub returns-then-all-old : goal.returns-then-all-old
+unfolding terms triples
+returns-then-all-old c = set_there c.requires.2 (rw (← c.word-old.ensures.0) c.if-all-old.true)
+
+pub returns-then-renew-ne0 : goal.returns-then-renew-ne0
+unfolding terms triples
+returns-then-renew-ne0 c = set_marked c.requires.2 (rw (← c.word-old.ensures.0) c.renew.ensures)
+
+pub push-requires : goal.push-requires
+unfolding Whole
+push-requires c = let p = c.requires in (c.renew.ensures.long ∙ p.0, p.2)
+
+pub returns : goal.returns
+unfolding terms triples
+returns c = marked_aside (set_marked c.requires.2 (rw (← c.word-old.ensures.0) c.renew.ensures)) c.push.ensures

@@ -1,0 +1,32 @@
+use Prim.Native.Nat.{◌-◌}
+use native.Mathlib.Omega.{arith}
+use Rattle.meaning.specs.Limits.{terms, none}
+use Rattle.calls.proofs.Copying.{row_none, row_same, row_more, row_all}
+use Rattle.calls.proofs.write.copy_row.Goals as goal
+
+pub loop-t-init : goal.loop-t-init
+loop-t-init c = row_none _ c.args.row.now c.requires.0 c.requires.1 c.requires.2
+
+pub number-requires : goal.number-requires
+unfolding terms
+number-requires c = (c.requires.0, c.requires.1, c.loop-t-test.true)
+
+pub overflow_cast-row : goal.overflow_cast-row
+unfolding none
+overflow_cast-row c = omega (arith, c.number.ensures.1)
+
+pub bounds-row-t : goal.bounds-row-t
+unfolding terms
+bounds-row-t c = omega (arith, row_same c.loop-t.invariant, c.loop-t.invariant.fits)
+
+pub loop-t-smaller : goal.loop-t-smaller
+unfolding terms
+loop-t-smaller c = omega arith
+
+pub loop-t-preserved : goal.loop-t-preserved
+unfolding terms
+loop-t-preserved c = row_more c.loop-t.invariant c.loop-t-test.true c.number.ensures.0
+
+pub returns : goal.returns
+unfolding terms
+returns c = row_all c.loop-t.invariant c.loop-t-test.false

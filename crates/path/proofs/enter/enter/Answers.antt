@@ -1,0 +1,5 @@
+use Rattle.path.proofs.Sweeping.{sweep_exactly}
+use Rattle.path.proofs.enter.enter.Goals as goal
+
+pub returns : goal.returns
+returns c = sweep_exactly c.sweep.ensures c.loop-stand-test.false c.loop-stand.invariant
