@@ -16,7 +16,7 @@ const QUERY_KIND: u8 = 20;
 pub const QUERY_WIDTH: usize = 5;
 
 // Where the site's records end and the rule begins, and the query's terms.
-#[derive(Drop)]
+#[derive(Clone, Copy)]
 pub struct Parts {
     pub rule: usize,
     pub start: u32,

@@ -1,5 +1,5 @@
--- Each arm writes out the values of its outcome.
-use Rattle.std.proofs.Common.{sym, ap, ◌∙◌}
+-- `host::layout::lay_decision` meets its contract: each arm writes out the values of its outcome.
+use mathlib.Core.Path.{sym, ap, ◌∙◌}
 use Rattle.calls.specs.Values.{answer_values, decision_values}
 use Rattle.host.specs.Layout.{decision_of}
 use Rattle.host.proofs.Laying.{as_number, refused_laid}
@@ -13,4 +13,5 @@ returns-in-Answer c =
 
 pub returns-in-Refused : goal.returns-in-Refused
 unfolding decision_of
-returns-in-Refused c = refused_laid decision_of c.in-Refused.refusal (ap decision_values c.in-Refused.is) c.number.ensures
+returns-in-Refused c =
+    refused_laid decision_of c.in-Refused.refusal (ap decision_values c.in-Refused.is) c.number.ensures
