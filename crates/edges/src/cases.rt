@@ -1,13 +1,13 @@
 // A case is taken from its line, `KIND LABEL XX XX ..`, where each XX is a byte. The kinds are
 // s: a site of these bytes; S: the same after a full site; r: a rule; 0 and 1: a query's start and end, a number of four bytes.
-ghost use Rattle.std.specs.Prelude.{◌+◌, ◌*◌, ◌≤◌, ◌<◌, length};
+ghost use Rattle.std.specs.Prelude.{◌+◌, ◌*◌, ◌≤◌, ◌<◌, ◌≡◌, ◌≢◌, ℕ, length, slice_index};
 ghost use Rattle.records.specs.Sites.{triple_width};
 
 use crate::show;
-use bytes::scan::find;
 use records::TRIPLES;
 use records::bytes::BASE;
 use records::site::{TRIPLE_KIND, TRIPLE_WIDTH};
+use std::io;
 
 // How many bytes a full site has.
 const FULL: usize = TRIPLES * TRIPLE_WIDTH;
@@ -16,11 +16,11 @@ const FULL: usize = TRIPLES * TRIPLE_WIDTH;
 const MORE: usize = 128;
 
 // Runs the cases of the input. The room has a full site in front, so that a case's bytes follow it.
-pub fn run(input: &[u8]) {
+pub fn run<P: Print>(rt: &P, input: &[u8]) -> io::Result<()> {
     let mut space = [0; FULL + MORE];
     let room: &mut [u8] = &mut space;
     fill(room, TRIPLES);
-    lines(input, room, FULL);
+    lines(rt, input, room, FULL)
 }
 
 // Puts so many triples in front of the room, the ascending (k / 256, k % 256, 0).
@@ -32,36 +32,52 @@ fn fill(room: &mut [u8], count: usize)
         let at = k * TRIPLE_WIDTH;
         let subject = (k / BASE % BASE) as u8;
         let predicate = (k % BASE) as u8;
-        bytes::copy(
-            &[TRIPLE_KIND, 0, subject, 0, predicate, 0, 0],
-            &mut room[at..],
-        );
+        let triple = [TRIPLE_KIND, 0, subject, 0, predicate, 0, 0];
+        room[at..at + TRIPLE_WIDTH].copy_from_slice(&triple);
         k += 1;
     }
 }
 
-fn lines(input: &[u8], room: &mut [u8], at: usize)
+// Where a byte first stands from a place on and before an end; the end where it does not.
+fn find(text: &[u8], from: usize, to: usize, sought: u8) -> usize
+    requires { (from ≤ to) × (to ≤ length text.now) }
+    ensures within { (from ≤ result) × (result ≤ to) }
+    ensures before { (k : ℕ) → from ≤ k → k < result → slice_index text.now k ≢ sought }
+    ensures found { result < to → slice_index text.now result ≡ sought }
+{
+    let mut at = from;
+    while at < to {
+        if text[at] == sought {
+            return at;
+        }
+        at += 1;
+    }
+    to
+}
+
+fn lines<P: Print>(rt: &P, input: &[u8], room: &mut [u8], at: usize) -> io::Result<()>
     requires { at ≤ length room.old }
 {
     let mut from = 0;
     while from < input.len() {
         let end = find(input, from, input.len(), b'\n');
-        line(&input[from..end], room, at);
+        line(rt, &input[from..end], room, at)?;
         from = end + 1;
     }
+    Ok(())
 }
 
 // A line's bytes go into the room from a place on.
-fn line(text: &[u8], room: &mut [u8], at: usize)
+fn line<P: Print>(rt: &P, text: &[u8], room: &mut [u8], at: usize) -> io::Result<()>
     requires { at ≤ length room.old }
 {
     if text.len() < 2 {
-        return;
+        return Ok(());
     }
     let kind = text[0];
     let gap = find(text, 2, text.len(), b' ');
     let end = decode(&text[gap..], room, at);
-    case(kind, &text[2..gap], room, at, end);
+    case(rt, kind, &text[2..gap], room, at, end)
 }
 
 // Decodes bytes, each a space and two digits, into the room from a place on, and answers where they end.
@@ -99,16 +115,23 @@ fn digit(letter: u8) -> u8
     (letter % 16 + 9) % 16
 }
 
-fn case(kind: u8, label: &[u8], room: &[u8], at: usize, end: usize)
+fn case<P: Print>(
+    rt: &P,
+    kind: u8,
+    label: &[u8],
+    room: &[u8],
+    at: usize,
+    end: usize,
+) -> io::Result<()>
     requires { (at ≤ end) × (end ≤ length room.now) }
 {
     match kind {
-        b's' => show::site(label, &room[at..end]),
-        b'S' => show::site(label, &room[0..end]),
-        b'r' => show::rule(label, &room[at..end]),
-        b'0' => show::query(label, number(&room[at..end]), 0),
-        b'1' => show::query(label, number(&room[at..end]), 1),
-        _ => {}
+        b's' => show::site(rt, label, &room[at..end]),
+        b'S' => show::site(rt, label, &room[0..end]),
+        b'r' => show::rule(rt, label, &room[at..end]),
+        b'0' => show::query(rt, label, number(&room[at..end]), 0),
+        b'1' => show::query(rt, label, number(&room[at..end]), 1),
+        _ => Ok(()),
     }
 }
 

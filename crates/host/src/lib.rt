@@ -1,5 +1,5 @@
 // The calls for C: numbers and byte slices in, one struct out. The manual is include/carolivy.h, the layout docs/HOST.md.
-// Nothing is decided here: each call hands on to its namesake in `calls`, and lays the outcome out.
+// Nothing is decided here: each call hands on to its namesake in `calls`, and lays the outcome out. The crate `host_c` exports them.
 #![tactic(auto)]
 
 ghost use Rattle.host.specs.ForC.{DecidedForC, EndedForC, StartedForC, LimitedForC};
@@ -16,8 +16,7 @@ use calls::origins::starts_bytes;
 pub mod layout; // layout.rt: the structs, and an outcome laid out in one
 
 // Whether the rule relates start to end, with the figure, both tables filled and the path shown in the room.
-#[unsafe(no_mangle)]
-pub extern "C" fn carolivy_decide(
+pub fn carolivy_decide(
     site: &[u8],
     rule: &[u8],
     start: u32,
@@ -32,8 +31,7 @@ pub extern "C" fn carolivy_decide(
 }
 
 // The ends of a start, with the figure and both tables.
-#[unsafe(no_mangle)]
-pub extern "C" fn carolivy_list_ends(
+pub fn carolivy_list_ends(
     site: &[u8],
     rule: &[u8],
     start: u32,
@@ -47,8 +45,7 @@ pub extern "C" fn carolivy_list_ends(
 }
 
 // The starts of an end, with the number table.
-#[unsafe(no_mangle)]
-pub extern "C" fn carolivy_list_starts(
+pub fn carolivy_list_starts(
     site: &[u8],
     rule: &[u8],
     end: u32,
@@ -62,8 +59,7 @@ pub extern "C" fn carolivy_list_starts(
 }
 
 // The most that a figure can be for this site and rule.
-#[unsafe(no_mangle)]
-pub extern "C" fn carolivy_ceiling_of(site: &[u8], rule: &[u8]) -> CeilingForC
+pub fn carolivy_ceiling_of(site: &[u8], rule: &[u8]) -> CeilingForC
     ensures { LimitedForC site.now rule.now result }
 {
     lay_ceiling(ceiling(site, rule))

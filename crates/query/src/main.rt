@@ -2,28 +2,27 @@
 // It reads and writes; what it writes is `printed::print::print` of what it read.
 #![tactic(auto)]
 
-ghost use Rattle.io.specs.Counts.{IsPrefixLen};
+ghost use Rattle.std.specs.Prelude.{◌≡◌, ◌≤◌, length, take};
 
-use libc::{STDERR_FILENO, STDIN_FILENO, STDOUT_FILENO};
 use printed::print::print;
 use printed::split::INPUT_MOST;
+use std::io::Read;
 
 // One byte more than an input may have, so that a longer one is seen.
 const READ_MOST: usize = INPUT_MOST + 1;
 
 // Reads until the buffer is full or the input ends, and answers how many bytes came. An input that cannot be read to its end
 // counts as none, since a part of it may ask another query.
-fn read_input(buffer: &mut [u8]) -> usize
-    ensures { IsPrefixLen result buffer.new }
+fn read_input<R: Read, E: Eprint>(from: &mut R, rt: &E, buffer: &mut [u8]) -> usize
+    ensures within { result ≤ length buffer.new }
+    ensures taken { result ≡ length (take result buffer.new) }
 {
     let mut done = 0;
     while done < buffer.len() {
-        let got = libc::read(STDIN_FILENO, &mut buffer[done..]);
-        if got < 0 {
-            io::write_all(STDERR_FILENO, b"query: standard input cannot be read\n");
+        let Ok(count) = from.read(&mut buffer[done..]) else {
+            complain(rt, "query: standard input cannot be read");
             return 0;
-        }
-        let count = io::count(got, &buffer[done..]);
+        };
         if count == 0 {
             return done;
         }
@@ -32,13 +31,18 @@ fn read_input(buffer: &mut [u8]) -> usize
     done
 }
 
-fn main() {
+// A line on the other stream; where that cannot be written either, nothing is left to say so.
+fn complain<E: Eprint>(rt: &E, line: &str) {
+    let _ = rt.eprintln(line);
+}
+
+fn main(rt: HostRuntime) {
     let mut input = [0u8; READ_MOST];
-    let count = read_input(&mut input);
+    let count = read_input(&mut rt.stdin(), &rt, &mut input);
     let text = print(&input[..count]);
     let bytes = text.bytes;
     let length = text.count;
-    if !io::write_all(STDOUT_FILENO, &bytes[..length]) {
-        io::write_all(STDERR_FILENO, b"query: standard output cannot be written\n");
+    if rt.write_all(&bytes[..length]).is_err() {
+        complain(&rt, "query: standard output cannot be written");
     }
 }
