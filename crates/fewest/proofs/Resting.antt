@@ -2,13 +2,11 @@
 -- Each term seen and told whether it is a vocabulary term, every one of these was seen.
 use Prim.Native.Nat.{ℕ, ◌*◌, ◌<◌, ◌≤◌}
 use mathlib.Core.Path.{◌≡◌, refl}
-use mathlib.Core.Logic.{◌⊎◌, ◌≢◌, ⊎_elim}
+use mathlib.Core.Logic.{◌⊎◌, ◌≢◌}
 use mathlib.Core.Bool.{Bool, true, false, cond}
-use mathlib.Core.List.{List, [], ◌∷◌}
+use mathlib.Core.List.{List}
 use native.Mathlib.Omega.{arith}
 use lib.Dec.{eqb}
-use denote.Enum.Declared.{tag_of}
-use types.Run.{OneOf}
 use Rattle.meaning.specs.Limits.{terms}
 use Rattle.meaning.specs.Site as meant
 use Rattle.meaning.specs.Move.{self, Move, staying, only}
@@ -17,7 +15,6 @@ use Rattle.records.specs.declared.Triple.{Triple}
 use Rattle.records.specs.declared.Label.{Label}
 use Rattle.records.specs.declared.Label.TheVariants.{Any, Term, Test}
 use Rattle.records.specs.Sites.{site_of, triple_of, triple_width, in_code}
-use Rattle.records.specs.contracts.Label.{the_type}
 use Rattle.records.proofs.Sites.{length-site_of, triple_site_of}
 use Rattle.fewest.specs.Frame.{Frame, frame}
 use Rattle.fewest.specs.Offer.{Work, stepping, resting, Offer, by_step, by_test, by_rest, Lowers, Quiet}

@@ -24,7 +24,6 @@ use Rattle.fewest.specs.Frame.{Frame, frame}
 use Rattle.fewest.specs.Work.{Least, allowing}
 use Rattle.fewest.specs.Threads.{FirstWith, start_along, start_by}
 use Rattle.fewest.proofs.Axes as axes
-use Rattle.path.specs.declared.Taken.{Taken}
 use Rattle.path.specs.declared.Pick.TheVariants.{Step, Nothing}
 use Rattle.fewest.specs.Tells.{Tells, holds, fails}
 use Rattle.path.specs.Offers.{Suits, Stay, Smallest, found, none, Serves, SmallestBy}

@@ -1,4 +1,3 @@
-use Prim.Native.Nat.{◌-◌}
 use mathlib.Core.Path.{◌∙◌}
 use mathlib.Core.List.{[]}
 use Rattle.asked.specs.Seek.{Whole}

@@ -1,4 +1,3 @@
-use Prim.Native.Nat.{◌-◌}
 use native.Mathlib.Omega.{arith}
 use Rattle.asked.specs.Count.{part}
 use Rattle.asked.specs.Seek.{Bits}

@@ -1,4 +1,3 @@
-use Prim.Native.Nat.{◌-◌}
 use native.Mathlib.Omega.{arith}
 use Rattle.meaning.specs.Limits.{terms, records}
 use Rattle.calls.proofs.Copying.{rows_none, rows_start, rows_part, rows_more, rows_all}

@@ -1,4 +1,3 @@
-use Prim.Native.Nat.{◌-◌}
 use native.Mathlib.Omega.{arith}
 use Rattle.meaning.specs.Limits.{terms, none}
 use Rattle.calls.proofs.Copying.{row_none, row_same, row_more, row_all}

@@ -1,4 +1,3 @@
-use Prim.Native.Nat.{◌-◌}
 use Rattle.calls.proofs.Writing.{writing_begin, writing_term, writing_something, writing_placed, writing_small, writing_room, writing_step, writing_end}
 use Rattle.calls.proofs.write.write_words.Goals as goal
 

@@ -1,4 +1,3 @@
-use Prim.Native.Nat.{◌-◌}
 use Rattle.meaning.specs.Limits.{records, none}
 use Rattle.fewest.proofs.Walk.{walk_begins, walk_home, walk_held, walk_first, walk_up}
 use Rattle.fewest.proofs.left.left.Goals as goal

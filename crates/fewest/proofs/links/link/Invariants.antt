@@ -1,5 +1,5 @@
 -- `fewest::links::link` meets its contract: the loop keeps `LinkingOf`, and the measure is the records that are left.
-use Prim.Native.Nat.{◌≤◌, ◌-◌}
+use Prim.Native.Nat.{◌≤◌}
 use Rattle.records.specs.Rules.{records_of}
 use Rattle.fewest.specs.Frame.{links}
 use Rattle.fewest.proofs.Linking.{LinkingOf}

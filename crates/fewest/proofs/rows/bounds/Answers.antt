@@ -1,4 +1,3 @@
-use Prim.Native.Nat.{◌-◌}
 use Rattle.meaning.specs.Limits.{records}
 use Rattle.fewest.proofs.Quieting.{climb_up}
 use Rattle.fewest.proofs.rows.bounds.Goals as goal

@@ -1,4 +1,3 @@
-use Prim.Native.Nat.{◌-◌}
 use native.Mathlib.Omega.{arith}
 use Rattle.meaning.specs.Limits.{none}
 use Rattle.fewest.specs.Table.{Full}

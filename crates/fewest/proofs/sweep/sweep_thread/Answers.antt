@@ -1,4 +1,3 @@
-use Prim.Native.Nat.{◌-◌}
 use mathlib.Core.Path.{◌∙◌}
 use native.Mathlib.Omega.{arith}
 use Rattle.records.proofs.Sites.{length-site_of}
@@ -11,14 +10,13 @@ use Rattle.fewest.proofs.Naming.{thread_seen}
 use Rattle.fewest.proofs.sweep.sweep_thread.Goals as goal
 
 pub loop-k-init : goal.loop-k-init
-loop-k-init c =
-    (
-      omega arith,
-      λ takes known. stay,
-      λ takes known threads place at others.
-          let first = c.first_from-k.ensures _ _ threads at.moving at.known c.requires.5 in
-          (λ h. (first.own h).1, thread_seen _ c.args.step.label (axis_takes _ takes) at _ _ others first (omega arith) (seen_none lowers_chain)),
-    )
+loop-k-init c = (
+  omega arith,
+  λ takes known. stay,
+  λ takes known threads place at others.
+      let first = c.first_from-k.ensures _ _ threads at.moving at.known c.requires.5 in
+      (λ h. (first.own h).1, thread_seen _ c.args.step.label (axis_takes _ takes) at _ _ others first (omega arith) (seen_none lowers_chain)),
+)
 
 pub look-changed-requires : goal.look-changed-requires
 unfolding Full

@@ -1,6 +1,6 @@
 -- `fewest::threads::thread` meets its contract: the triples from number k on are threaded.
 -- The measure is what is left of the triples.
-use Prim.Native.Nat.{◌*◌, ◌-◌, ◌≤◌}
+use Prim.Native.Nat.{◌*◌, ◌≤◌}
 use mathlib.Core.Path.{◌≡◌}
 use lib.ListN.{length}
 use Rattle.meaning.specs.Limits.{terms, records}

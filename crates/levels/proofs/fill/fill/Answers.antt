@@ -15,8 +15,7 @@ settle-requires c =
     (pre.0, hinted_full c.levels.ensures.0 (c.clear.auto.numbers ∙ pre.1), c.levels.ensures.1)
 
 pub returns : goal.returns
-returns c =
-    (
-      rw c.clear.ensures at (hinted_settled c.levels.ensures.0 c.settle.ensures),
-      c.levels.ensures.1,
-    )
+returns c = (
+  rw c.clear.ensures at (hinted_settled c.levels.ensures.0 c.settle.ensures),
+  c.levels.ensures.1,
+)

@@ -1,6 +1,5 @@
 -- `levels::search::begin_all` meets its contract: what may pass empty, then each turn takes the lowest bit away.
 -- The measure is the set that is left.
-use Prim.Native.Nat.{◌-◌}
 use Rattle.fewest.specs.Work.{goal_of}
 use Rattle.levels.specs.Levelled.{Levelled}
 use Rattle.levels.proofs.search.begin_all.Given as goal

@@ -1,4 +1,3 @@
-use Prim.Native.Nat.{◌-◌}
 use Rattle.levels.proofs.Hints.{hinted_none, hinted_then, hinted_full}
 use Rattle.levels.proofs.search.climb.Goals as goal
 

@@ -1,5 +1,4 @@
 -- `levels::search::climb_one` meets its contract: what may pass empty, and then the works of the record above.
-use mathlib.Core.Logic.{⊎_elim}
 use Rattle.meaning.specs.Limits.{records}
 use Rattle.fewest.specs.Work.{goal_of}
 use Rattle.levels.specs.Levelled.{Hinted}

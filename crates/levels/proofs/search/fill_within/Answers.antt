@@ -1,5 +1,3 @@
-use Prim.Native.Nat.{◌-◌}
-use mathlib.Core.Logic.{⊎_elim}
 use Rattle.levels.proofs.Hints.{hinted_none, hinted_then, hinted_full}
 use Rattle.levels.proofs.search.fill_within.Goals as goal
 use Rattle.levels.proofs.search.fill_within.Goals.{then-ends_in_star, else-ends_in_star}

@@ -1,4 +1,3 @@
-use Prim.Native.Nat.{◌-◌}
 use Rattle.meaning.specs.Limits.{terms}
 use Rattle.levels.proofs.Levelling.{levelled_none, levelled_then, levelled_full}
 use native.Mathlib.Omega.{arith}

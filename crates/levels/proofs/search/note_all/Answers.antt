@@ -1,4 +1,3 @@
-use Prim.Native.Nat.{◌-◌}
 use Rattle.meaning.specs.Limits.{terms}
 use native.Mathlib.Omega.{arith}
 use Rattle.levels.proofs.search.note_all.Goals as goal

@@ -1,4 +1,3 @@
-use Prim.Native.Nat.{◌-◌}
 use Rattle.meaning.specs.Limits.{records}
 use native.Mathlib.Omega.{arith}
 use Rattle.levels.proofs.search.possible.Goals as goal

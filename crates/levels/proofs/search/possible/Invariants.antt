@@ -1,6 +1,5 @@
 -- `levels::search::possible` meets its contract: each turn takes the lowest bit away.
 -- The measure is the set that is left.
-use Prim.Native.Nat.{◌-◌}
 use Rattle.levels.proofs.search.possible.Given as goal
 
 abbrev pub invariant-loop-rest : goal.invariant-loop-rest

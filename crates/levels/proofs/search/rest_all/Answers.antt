@@ -1,4 +1,3 @@
-use Prim.Native.Nat.{◌-◌}
 use mathlib.Core.Path.{refl, ◌∙◌}
 use Rattle.meaning.specs.Limits.{terms}
 use Rattle.fewest.specs.Offer.{stay}

@@ -1,6 +1,5 @@
 -- `levels::search::rise` meets its contract: each turn takes the lowest bit away.
 -- The measure is the set that is left.
-use Prim.Native.Nat.{◌-◌}
 use Rattle.fewest.specs.Work.{goal_of}
 use Rattle.levels.specs.Levelled.{Hinted}
 use Rattle.levels.proofs.search.rise.Given as goal

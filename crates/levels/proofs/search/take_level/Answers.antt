@@ -1,4 +1,3 @@
-use Prim.Native.Nat.{◌-◌}
 use Rattle.levels.proofs.Levelling.{levelled_none, levelled_then, levelled_full}
 use Rattle.levels.proofs.search.take_level.Goals as goal
 

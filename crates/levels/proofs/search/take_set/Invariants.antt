@@ -1,6 +1,5 @@
 -- `levels::search::take_set` meets its contract: each turn takes the lowest bit away.
 -- The measure is the set that is left.
-use Prim.Native.Nat.{◌-◌}
 use Rattle.fewest.specs.Work.{goal_of}
 use Rattle.levels.specs.Levelled.{Levelled}
 use Rattle.levels.proofs.search.take_set.Given as goal

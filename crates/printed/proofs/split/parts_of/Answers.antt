@@ -1,5 +1,4 @@
 -- `printed::split::parts_of` meets its contract.
-use Prim.Native.Nat.{◌-◌}
 use native.Mathlib.Omega.{arith}
 use Rattle.printed.specs.Input.{parts}
 use Rattle.printed.proofs.Splitting.{query_long}
