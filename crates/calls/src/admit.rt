@@ -24,7 +24,7 @@ pub enum Verdict {
 }
 
 // The verdict, with the places and the links of the rule's records where it is ready.
-#[derive(Drop)]
+#[derive(Clone, Copy)]
 pub struct Admission {
     pub verdict: Verdict,
     pub starts: [u8; RECORDS],

@@ -18,7 +18,7 @@ use path::{Pick, Stand, Taken, next_step};
 use records::{RECORDS, TERMS};
 
 // Where a walk along the path stands, and at which term.
-#[derive(Drop)]
+#[derive(Clone, Copy)]
 struct Walk {
     stand: Stand,
     term: usize,

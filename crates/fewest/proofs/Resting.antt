@@ -57,14 +57,14 @@ at_words (Term _) empty free _ = elim free [ ]
 abbrev pub AtWord : Frame → Work → ℕ → ℕ → List ℕ → Type 0
 AtWord F w r t X = meant.Voc F.site t → QuietAt F w r t X
 
-module _ {s : meant.Site} {t : ℕ} {is_IsWord : Bool} (tells : Tells (meant.Voc s t) is_IsWord) {up role : List ℕ} {g : Goal} where
+module _ {s : meant.Site} {t : ℕ} {is_word : Bool} (tells : Tells (meant.Voc s t) is_word) {up role : List ℕ} {g : Goal} where
   -- A vocabulary term was looked at,
-  pub word_looked : (l : Label) (cost : ℕ) {r : ℕ} {T U : List ℕ} {was now : Bool} → is_IsWord ≡ true → (cost ≡ 0 → l ≡ Any) →
+  pub word_looked : (l : Label) (cost : ℕ) {r : ℕ} {T U : List ℕ} {was now : Bool} → is_word ≡ true → (cost ≡ 0 → l ≡ Any) →
       Rested up role g l cost r t T U was now → Looks (frame s up role g) (stayingBy cost l) r (AtWord (frame s up role g) (stayingBy cost l) r t) T U was now
   word_looked l cost e any p = swept_weaken (λ quiet v. quiet) (p s (at_word (told tells e)) any)
 
   -- and at another nothing is to be seen.
-  pub word_passed : (w : Work) {r : ℕ} {T : List ℕ} {was : Bool} → is_IsWord ≡ false →
+  pub word_passed : (w : Work) {r : ℕ} {T : List ℕ} {was : Bool} → is_word ≡ false →
       Looks (frame s up role g) w r (AtWord (frame s up role g) w r t) T T was was
   word_passed w e = swept_none lowers_chain (λ v. absurd (told_not tells e v))
 

@@ -22,7 +22,7 @@ pub const AS_FIRST: u8 = 2;
 pub const AS_ROUND: u8 = 3;
 
 // For each record its role and the record below which it has it, 0 for the whole rule; for each join its first operand.
-#[derive(Drop)]
+#[derive(Clone, Copy)]
 pub struct Links {
     pub up: [u8; RECORDS],
     pub role: [u8; RECORDS],

@@ -17,7 +17,7 @@ use records::{RECORDS, TERMS};
 pub const TEXT_MOST: usize = LINE_MOST + STEP_MOST * ROOM_STEPS;
 
 // A text: so many bytes, at the front.
-#[derive(Drop)]
+#[derive(Clone, Copy)]
 pub struct Text {
     pub bytes: [u8; TEXT_MOST],
     pub count: usize,

@@ -8,7 +8,7 @@ use native.Mathlib.Omega.{arith}
 use lib.ListN.{length, get_or}
 use Rattle.meaning.specs.Expression.{Rec, Expr, step, tested, sequence, choice, star, last, first, size, Expression, operands, Context, test, first_of, second_of, one_of, other_of, round_of, plug}
 use Rattle.meaning.proofs.Names.{operand_last, join_first, numbered_node, node_below}
-use Rattle.meaning.proofs.Postfix.{own as own_of_lem, own_record, expression_long, node_at}
+use Rattle.meaning.proofs.Postfix.{own as own_of, own_record, expression_long, node_at}
 use Rattle.records.specs.declared.Record.{Record}
 use Rattle.records.specs.Rules.{rec_of, record_at, starts_of, records_of, Front}
 use Rattle.records.specs.First.{First, own, of_one, of_two, taken, Ends, Inside}
@@ -77,13 +77,13 @@ module _ {rs : List Rec} {rule : Expr} (x : Expression rs rule) where
   stands e K p = rw (expression_long x, ← p) (node_below e K (rw p x.numbered))
 
   -- of an expression with one operand y, and with two, a and b
-  from_one : (e y : Expr) (K : Context) → plug e K ≡ rule → operands (own_of_lem e) ≡ 1 → last y + 1 ≡ last e →
+  from_one : (e y : Expr) (K : Context) → plug e K ≡ rule → operands (own_of e) ≡ 1 → last y + 1 ≡ last e →
       First rs (last y) (first y) → First rs (last e) (first y)
   from_one e y K p t h q =
       let back : last y ≡ last e - 1 = omega arith in
       of_one (stands e K p) (ap operands (own_record x e K p) ∙ t) (omega arith) (rw back at q)
 
-  from_two : (e a b : Expr) (K : Context) → plug e K ≡ rule → operands (own_of_lem e) ≡ 2 → last a + 1 ≡ first b → last b + 1 ≡ last e →
+  from_two : (e a b : Expr) (K : Context) → plug e K ≡ rule → operands (own_of e) ≡ 2 → last a + 1 ≡ first b → last b + 1 ≡ last e →
       First rs (last a) (first a) → First rs (last b) (first b) → First rs (last e) (first a)
   from_two e a b K p t j h q q' =
       let back : last b ≡ last e - 1 = omega arith in

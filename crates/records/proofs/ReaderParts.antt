@@ -1,5 +1,5 @@
 -- What a site reader owns, taken apart: the reader is Copy, so what it owns is had twice, and the fields of one copy are what a function
--- on the slice and the number asks. Used by each walk that calls such a function.
+-- on the slice and the number asks. For a walk by hand that calls such a function; the check covers those of today.
 use mathlib.Core.Path.{◌≡◌}
 use mathlib.Core.List.{[], ◌∷◌}
 use seplogic.Ra.Ura.{Ura}

@@ -28,7 +28,7 @@ pub enum RuleAnswer {
 
 // A checked rule: the answer, and the places of its records in front, 0 behind; all 0 where it is refused.
 // Records are so short that a place is a byte.
-#[derive(Drop)]
+#[derive(Clone, Copy)]
 pub struct RuleRead {
     pub answer: RuleAnswer,
     pub starts: [u8; RECORDS],

@@ -1,5 +1,5 @@
 // Site records: one triple each; the reader that hands them out; and a whole site checked, through it from where it is not plainly sound.
-// `site_record` decides what stands at a place. The reader only keeps the bytes and the place, and its functions are proved by hand.
+// `site_record` decides what stands at a place. The reader only keeps the bytes and the place.
 ghost use Rattle.std.specs.Prelude.{◌≡◌, ◌+◌, ◌*◌, ◌-◌, ◌<◌, ◌≤◌, true, length};
 ghost use Rattle.meaning.specs.Limits.{triples};
 ghost use Rattle.records.specs.Sites.{triple_width, triple_of, term_at, in_code, all_terms, is_above, is_in_order, denial, site_record_at, finished, Checked, Begun};
@@ -169,7 +169,7 @@ fn left_from(site: &[u8], at: usize) -> usize
 }
 
 // The site reader: the lent bytes and its place in them. The count of triples read is the place divided by a record's length.
-#[derive(Drop)]
+#[derive(Clone, Copy)]
 pub struct SiteReader<'a> {
     site: &'a [u8],
     at: usize,

@@ -2,7 +2,7 @@ use Rattle.calls.proofs.Writing.{writing_begin, writing_term, writing_something,
 use Rattle.calls.proofs.write.write_bytes.Goals as goal
 
 pub loop-i-init : goal.loop-i-init
-loop-i-init c = let pre = c.requires in writing_begin pre.0 pre.3 pre.4 pre.5 (λ k. (c.slice_known-1.given k).fits)
+loop-i-init c = let pre = c.requires in writing_begin pre.0 pre.3 pre.4 pre.5 (λ k. (c.type_inv.room k).fits)
 
 pub next_step-requires : goal.next_step-requires
 next_step-requires c =
@@ -24,7 +24,7 @@ loop-i-preserved c =
     writing_step c.loop-i.invariant c.loop-i-test.true
     c.next_step.ensures c.in-Step.is
     c.onward-walk.ensures.0 c.onward-walk.ensures.1
-    c.step_bytes.ensures c.step_bytes.auto.room (λ k. (c.slice_known-in-loop-i-1.given k).fits)
+    c.step_bytes.ensures c.step_bytes.auto.room (λ k. (c.type_inv.room k).fits)
 
 pub returns : goal.returns
 returns c = writing_end c.loop-i.invariant c.loop-i-test.false

@@ -1,6 +1,8 @@
 -- `fewest::rows::below_home` meets its contract: at other terms than the end nothing is left that is a number.
-use Prim.Native.Nat.{ℕ, ◌≤◌}
+use Prim.Native.Nat.{ℕ, ◌<◌, ◌≤◌}
+use mathlib.Core.List.{List}
 use native.Mathlib.Omega.{arith}
+use lib.ListN.{get_or}
 use borrow.Author.Tests.{eqb-true}
 use Rattle.meaning.specs.Limits.{terms, none}
 use Rattle.fewest.specs.Pairs.{pairs}
@@ -8,17 +10,12 @@ use Rattle.fewest.specs.Offer.{view}
 use Rattle.fewest.proofs.Entries.{view_top}
 use Rattle.fewest.proofs.Quieting.{home_below}
 use Rattle.fewest.proofs.rows.below_home.Goals as goal
-use Rattle.fewest.proofs.rows.below_home.Goals.{After-shared_slice_known-1}
-
--- no number of the row is above none
-top : (c : After-shared_slice_known-1) → (t : ℕ) → view (pairs c.args.numbers.now) c.args.b t ≤ none
-top c t = view_top c.args.numbers.now (λ i. let byte = c.shared_slice_known-1.given i in omega arith) _ t
 
 pub returns-then-end-ge-TERMS : goal.returns-then-end-ge-TERMS
 unfolding terms
 returns-then-end-ge-TERMS c =
     λ yes.
-    rw c.in-End.is (home_below _ _ (top (goal.at.returns-then-end-ge-TERMS c).After-shared_slice_known-1) (λ e. absurd (omega arith)))
+    rw c.in-End.is (home_below _ _ (view_top c.args.numbers.now (λ i. (c.type_inv.numbers i).fits) _) (λ e. absurd (omega arith)))
 
 pub number-requires : goal.number-requires
 unfolding terms
@@ -28,4 +25,4 @@ pub returns-else-end-ge-TERMS : goal.returns-else-end-ge-TERMS
 returns-else-end-ge-TERMS c =
     λ yes.
     let here = eqb-true c.number.result 0 yes in
-    rw c.in-End.is (home_below _ _ (top (goal.at.returns-else-end-ge-TERMS c).After-shared_slice_known-1) (λ h. omega (arith, c.number.ensures.0)))
+    rw c.in-End.is (home_below _ _ (view_top c.args.numbers.now (λ i. (c.type_inv.numbers i).fits) _) (λ h. omega (arith, c.number.ensures.0)))

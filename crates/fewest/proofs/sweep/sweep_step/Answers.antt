@@ -30,7 +30,7 @@ returns-then-end-lt-TERMS c = λ known.
     let (whole, only) = c.only_end-end.ensures c.if-end-lt-TERMS.true in
     c.sweep_thread-then-end-lt-TERMS.ensures.swept takes known c.requires.5 _ (c.inverse-back.ensures takes known)
     (end_others _ _ _ _ c.args.step.label _ _ (axis_takes _ takes) whole only
-    (λ t. view_top c.args.numbers.now (λ i. let byte = c.slice_known-1.given i in omega arith) _ t))
+    (λ t. view_top c.args.numbers.now (λ i. (c.slice_known-1.given i).fits) _ t))
 
 pub returns-then-step_quiet : goal.returns-then-step_quiet
 returns-then-step_quiet c = λ known.

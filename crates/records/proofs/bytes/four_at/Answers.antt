@@ -10,13 +10,13 @@ use Rattle.records.proofs.bytes.four_at.Goals.{After-number_at-2}
 -- each of the two numbers
 fits : (c : After-number_at-2) → (c.number_at.result < two_bytes) × (c.number_at-2.result < two_bytes)
 fits c =
-    let bytes : AllBytes c.args.s.now = λ i. (c.shared_slice_known-1.given i).fits in
+    let bytes : AllBytes c.args.s.now = λ i. (c.type_inv.s i).fits in
     (rw c.number_at.ensures (two_fit _ _ bytes), rw c.number_at-2.ensures (two_fit _ _ bytes))
 
 pub overflow_mul-result : goal.overflow_mul-result
 overflow_mul-result c =
     let start = c.args in
-    omega (arith, c.number_at.ensures, two_fit start.s.now start.at (λ i. (c.shared_slice_known-1.given i).fits))
+    omega (arith, c.number_at.ensures, two_fit start.s.now start.at (λ i. (c.type_inv.s i).fits))
 
 pub overflow_add-result : goal.overflow_add-result
 overflow_add-result c = omega (arith, fits c)

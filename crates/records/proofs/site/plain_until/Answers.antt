@@ -11,7 +11,7 @@ loop-at-init c = (begun_none _, none)
 pub loop-at-preserved : goal.loop-at-preserved
 loop-at-preserved c =
     let site = c.args.site.now in
-    let bytes : AllBytes site = λ i. (c.shared_slice_known-1.given i).fits in
+    let bytes : AllBytes site = λ i. (c.type_inv.site i).fits in
     let eight = c.eight_at-eight.ensures in
     let (plain, less) = rw eight at (c.is_plain.ensures c.if-not-is_plain.false) in
     let holds : Holds site c.loop-at.at = plain_holds _ _ bytes plain in
