@@ -17,7 +17,7 @@ use Rattle.records.specs.declared.Label.TheVariants.{Any, Term, Test}
 use Rattle.records.specs.declared.Step.{Step}
 use Rattle.records.specs.declared.Record.{Record}
 use Rattle.records.specs.declared.Record.TheVariants as kind
-use Rattle.records.specs.Rules.{axis_numbered, labelled, rec_of, records_of}
+use Rattle.records.specs.Rules.{axis_meant, labelled, rec_of, records_of}
 use Rattle.fewest.specs.Frame.{Frame}
 use Rattle.fewest.specs.Offer.{place, view, Work, copying, resting, works_of}
 use Rattle.fewest.specs.Work.{work_of, Rows, idle, worked}
@@ -51,9 +51,9 @@ module _ {F : Frame} {T : List ℕ} {r t : ℕ} where
     step_works a (Term n) p = one_work p
     step_works a Test p = one_work p
 
-    pub asked_step : {x : Record} {s : Step} → x ≡ kind.Step s → WorkAsked F T (work_of (axis_numbered s.axis) s.label) r t M N →
+    pub asked_step : {x : Record} {s : Step} → x ≡ kind.Step s → WorkAsked F T (work_of (axis_meant s.axis) s.label) r t M N →
         Works F T r t (works_of (rec_of x) r f) M N
-    asked_step {s = s} e p = rw e (step_works (axis_numbered s.axis) s.label p)
+    asked_step {s = s} e p = rw e (step_works (axis_meant s.axis) s.label p)
 
     pub asked_sequence : {x : Record} → x ≡ kind.Sequence → WorkAsked F T (copying f) r t M N → Works F T r t (works_of (rec_of x) r f) M N
     asked_sequence e p = rw e (one_work p)

@@ -3,7 +3,7 @@
 use Prim.Native.Nat.{ℕ, ◌-◌, ◌^◌, ◌<◌}
 use mathlib.Core.Path.{◌≡◌, refl, subst}
 use mathlib.Core.Bool.{true, false, false≢true}
-use mathlib.Core.Logic.{◌⊎◌, inl, inr, ⊎_elim, ◌≢◌}
+use mathlib.Core.Logic.{◌⊎◌, inl, inr, ⊎_elim}
 use mathlib.Core.List.{List}
 use native.Mathlib.Omega.{arith}
 use native.Mathlib.Decide.{ℕ_discrete}
@@ -17,7 +17,7 @@ use Rattle.fewest.specs.Next.{Next, on, again, ending, Home, whole}
 use Rattle.fewest.proofs.Nexts.{SaysNext, SaysHome, next_says, home_says}
 use Rattle.asked.specs.Words.{sets, bit}
 use Rattle.asked.specs.Seek.{Onward}
-use Rattle.asked.proofs.WordBits.{bit_of_or, bit_none, bit_own, bit_other, or_small}
+use Rattle.asked.proofs.WordBits.{bit_of_or, bit_own, bit_other, or_small}
 
 -- of what follows record r, what is not in the set follows record `at`
 pub record Climbed (up role : List ℕ) (r at set : ℕ) : Type 0 where
@@ -48,17 +48,6 @@ module _ {F : Frame} {at : ℕ} where
   says_end k q n = subst (λ k. SaysHome F (get_or F.up at 0) k) q (home_says n)
 
 module _ {up role : List ℕ} where
-  pub climb_begins : {r : ℕ} → r < records → Climbed up role r r 0
-  climb_begins h = record {
-    inside = h;
-    small = omega arith;
-    next = λ s g q n. inr n;
-    only = λ s g q e. absurd (omega (arith, bit_none q));
-    onward = λ s g q n. n;
-    home = λ s g o. o;
-    homeward = λ s g o. o;
-  }
-
   module _ {r at set : ℕ} (climb : Climbed up role r at set) where
     -- The three ends: the whole rule, a test, the first of a sequence.
     pub climb_home : get_or role at 0 ≡ as_whole → Onward up role r (record { set = set; home = true })
@@ -93,12 +82,9 @@ module _ {up role : List ℕ} where
       }
 
       -- One star up, where the role is none of these: its operand is asked again.
-      pub climb_up : Climbs records up role → get_or role at 0 ≢ as_whole → get_or role at 0 ≢ as_test → get_or role at 0 ≢ as_first →
-          Climbed up role r (get_or up at 0) more
-      climb_up climbs x y z =
-          let known = climbs.known at climb.inside in
-          let (later, high) = climbs.higher at climb.inside x in
-          let q : get_or role at 0 ≡ as_round = omega arith in record {
+      pub climb_up : Climbs records up role → get_or role at 0 ≡ as_round → Climbed up role r (get_or up at 0) more
+      climb_up climbs q =
+          let (later, high) = climbs.higher at climb.inside (λ e. omega arith) in record {
             inside = high;
             small = or_small climb.small few;
             next = λ s g b n. ⊎_elim (λ (k, e). inl (k, joined_has set _ b e))

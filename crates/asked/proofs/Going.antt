@@ -1,8 +1,6 @@
 -- A step's triples from t by the threads: every triple before the next one was seen, if it starts at t.
--- The loops by label share this; what a look at one triple is they say themselves.
 use Prim.Native.Nat.{ℕ, suc, ◌<◌, ◌≤◌, zero-le}
 use mathlib.Core.Path.{◌≡◌, refl, sym}
-use mathlib.Core.Logic.{◌≢◌}
 use mathlib.Core.List.{List}
 use native.Mathlib.Omega.{arith}
 use native.Mathlib.Decide.{ℕ_discrete, dec_lt}
@@ -11,22 +9,24 @@ use Rattle.meaning.specs.Site.{Site, triple}
 use Rattle.meaning.specs.Move.{Axis, Move, any, going, coming}
 use Rattle.meaning.specs.Fewest.{Goal, anywhere}
 use Rattle.records.specs.declared.Label.{Label}
-use Rattle.records.specs.Sites.{term_at, site_of}
-use Rattle.records.specs.Rules.{axis_numbered}
+use Rattle.meaning.specs.Limits.{terms}
+use Rattle.records.specs.Sites.{term_at, Accepted, site_of}
+use Rattle.std.specs.Prelude.{Option}
+use Rattle.records.specs.declared.Axis.{Axis as CodeAxis}
+use Rattle.records.specs.Rules.{axis_of}
 use Rattle.records.proofs.Sites.{length-site_of}
 use Rattle.fewest.specs.declared.look.Parts.{Parts}
 use Rattle.fewest.specs.Frame.{Frame, frame}
-use Rattle.fewest.specs.Threads.{FirstWith, start_along, start_by, ThreadFirst, nexts_of, ThreadNext}
+use Rattle.fewest.specs.Threads.{FirstWith, start_along, start_by, Threads, ThreadFirst, nexts_of, ThreadNext}
 use Rattle.fewest.specs.Work.{work_of, parts_of, moved_at}
 use Rattle.fewest.proofs.Axes.{Terms, moved_taken, moved_terms}
 use Rattle.fewest.proofs.ByTriples.{Takes, forwards, backwards, axis_takes, by_triple}
 use Rattle.fewest.proofs.Keeping.{threads_kept}
-use Rattle.asked.specs.declared.follow.After.{After}
 use Rattle.asked.specs.Mark.{Marks, marks, Marked, Marking, stay}
-use Rattle.asked.specs.Serve.{markeds, Kept}
-use Rattle.asked.specs.Seek.{Bits, Onward, CalmBy, Pursued}
-use Rattle.asked.specs.Chase.{WorkAsked, SetsOut, GoesOn, Went}
-use Rattle.asked.proofs.Marking.{marking_then, marking_long, marking_bits, marking_grows, calm_by_grows}
+use Rattle.asked.specs.Serve.{Kept}
+use Rattle.asked.specs.Seek.{Bits, CalmBy, Pursued}
+use Rattle.asked.specs.Chase.{WorkAsked}
+use Rattle.asked.proofs.Marking.{marking_then, marking_bits, marking_grows, calm_by_grows}
 use Rattle.asked.proofs.ByMoves.{calm_triples}
 use Rattle.asked.proofs.Seeking.{went_by}
 
@@ -45,24 +45,24 @@ goes_along : {s : Site} {a : Axis} {k t : ℕ} → Takes a → k < length s → 
 goes_along forwards h e = (_, _, going (record { below = h; starts = sym e; passes = refl; ends = refl }) tt)
 goes_along backwards h e = (_, _, coming (record { below = h; starts = refl; passes = refl; ends = sym e }) tt)
 
-module _ (b : List ℕ) {n axis : ℕ} (moving : axis ≢ 0) where
+module _ (b : List ℕ) {n : ℕ} (axis : CodeAxis) where
   -- no triple before the first one that starts at t, from number k on, does
   none_between : {t k j : ℕ} → FirstWith (start_by axis (site_of b n)) n t k j → (i m u : ℕ) → k ≤ i → i < j →
-      Move (site_of b n) (axis_numbered axis) any i t m u → ⊥
+      Move (site_of b n) (axis_of axis) any i t m u → ⊥
   none_between first i m u after before v =
-      let inside : i < n = rw (length-site_of b n) at (by_triple (axis_takes axis moving) v).0 in
-      let late = first.least i after inside (starts_along (axis_takes axis moving) v) in
+      let inside : i < n = rw (length-site_of b n) at (by_triple (axis_takes axis) v).0 in
+      let late = first.least i after inside (starts_along (axis_takes axis) v) in
       omega arith
 
   module _ {up role : List ℕ} {g : Goal} {T : List ℕ} {l : Label} {r t : ℕ} where
     gone_none : {k : ℕ} {M : Marks} → FirstWith (start_by axis (site_of b n)) n t 0 k →
-        Gone (frame (site_of b n) up role g) T (axis_numbered axis) l r t k M M
+        Gone (frame (site_of b n) up role g) T (axis_of axis) l r t k M M
     gone_none first = record { made = stay; seen = λ j i u h v. absurd (none_between first j i u zero-le h v) }
 
-    gone_more : {k j : ℕ} {M N P : Marks} → Gone (frame (site_of b n) up role g) T (axis_numbered axis) l r t k M N →
-        Marking (frame (site_of b n) up role g) T (work_of (axis_numbered axis) l) r N P →
-        ((i u : ℕ) → Move (site_of b n) (axis_numbered axis) any k t i u → CalmBy (frame (site_of b n) up role g) T l r i u P) →
-        FirstWith (start_by axis (site_of b n)) n t (suc k) j → Gone (frame (site_of b n) up role g) T (axis_numbered axis) l r t j M P
+    gone_more : {k j : ℕ} {M N P : Marks} → Gone (frame (site_of b n) up role g) T (axis_of axis) l r t k M N →
+        Marking (frame (site_of b n) up role g) T (work_of (axis_of axis) l) r N P →
+        ((i u : ℕ) → Move (site_of b n) (axis_of axis) any k t i u → CalmBy (frame (site_of b n) up role g) T l r i u P) →
+        FirstWith (start_by axis (site_of b n)) n t (suc k) j → Gone (frame (site_of b n) up role g) T (axis_of axis) l r t j M P
     gone_more {k} {j} gone made here first = record {
       made = marking_then gone.made made;
       seen = λ q i u h v. elim (dec_lt q k) [
@@ -75,59 +75,54 @@ module _ (b : List ℕ) {n axis : ℕ} (moving : axis ≢ 0) where
     }
 
     -- Past the last triple, the question at t was asked on.
-    gone_all : {k : ℕ} {M N : Marks} → n ≤ k → Gone (frame (site_of b n) up role g) T (axis_numbered axis) l r t k M N →
-        WorkAsked (frame (site_of b n) up role g) T (work_of (axis_numbered axis) l) r t M N
+    gone_all : {k : ℕ} {M N : Marks} → n ≤ k → Gone (frame (site_of b n) up role g) T (axis_of axis) l r t k M N →
+        WorkAsked (frame (site_of b n) up role g) T (work_of (axis_of axis) l) r t M N
     gone_all {k} past gone = (
       gone.made,
-      calm_triples (axis_takes axis moving) l λ j i u v.
-          let inside : j < n = rw (length-site_of b n) at (by_triple {s = site_of b n} (axis_takes axis moving) v).0 in
+      calm_triples (axis_takes axis) l λ j i u v.
+          let inside : j < n = rw (length-site_of b n) at (by_triple {s = site_of b n} (axis_takes axis) v).0 in
           gone.seen j i u (omega arith) v,
     )
 
--- they were, in each rule in which record r goes on so, if its question at t was marked
-abbrev pub Seen : List ℕ → (n axis : ℕ) → Label → After → List ℕ → (r t k : ℕ) → Marks → Marks → Type 0
-Seen b n axis l x T r t k M N =
-    (up role : List ℕ) (g : Goal) → Onward up role r x → Marked M r t → Gone (frame (site_of b n) up role g) T (axis_numbered axis) l r t k M N
+-- they were, whatever the goal
+abbrev pub Seen : List ℕ → ℕ → CodeAxis → Label → List ℕ → List ℕ → List ℕ → (r t k : ℕ) → Marks → Marks → Type 0
+Seen b n axis l up role T r t k M N = (g : Goal) → Gone (frame (site_of b n) up role g) T (axis_of axis) l r t k M N
 
--- What the loops by the triples from t share, whatever the label.
-module _ {b X ends : List ℕ} {n axis t : ℕ} (out : SetsOut b n axis t X ends) where
+-- Before the first triple from t none was seen, and after the last all were.
+module _ {b : List ℕ} {n : ℕ} (axis : CodeAxis) (good : Accepted b n) where
   -- What is read of a triple are terms.
   pub part_terms : {p : Parts} {k : ℕ} → p ≡ parts_of axis → k < n → Terms (moved_at b k p)
-  part_terms e inside = moved_terms refl out.good inside (axis, e)
+  part_terms e inside = moved_terms refl good inside (axis, e)
 
-  -- Before the first triple none was seen, and after the last all were;
-  module _ {x : After} {T : List ℕ} {l : Label} {r : ℕ} where
-    pub seen_none : {k : ℕ} {M : Marks} → FirstWith (start_by axis (site_of b n)) n t 0 k → Seen b n axis l x T r t k M M
-    seen_none first up role g onward marked = gone_none b out.moving first
+  module _ {l : Label} {up role T : List ℕ} {r t : ℕ} where
+    pub seen_none : {k : ℕ} {M : Marks} → FirstWith (start_by axis (site_of b n)) n t 0 k → Seen b n axis l up role T r t k M M
+    seen_none first g = gone_none b axis first
 
-    pub seen_all : {k : ℕ} {M N : Marks} → n ≤ k → Seen b n axis l x T r t k M N → Went b n axis l x T r t M N
-    seen_all past seen up role g onward marked = gone_all b out.moving past (seen up role g onward marked)
+    pub seen_all : {k : ℕ} {M N : Marks} → n ≤ k → Seen b n axis l up role T r t k M N → (g : Goal) →
+        WorkAsked (frame (site_of b n) up role g) T (work_of (axis_of axis) l) r t M N
+    seen_all past seen g = gone_all b axis past (seen g)
 
-    -- a look at the triple that starts at t, past its middle and where it ends, is one more.
-    pub seen_more : {p : Parts} {k j : ℕ} {M N P : Marks} → p ≡ parts_of axis → k < n → start_by axis (site_of b n) k ≡ t →
-        Seen b n axis l x T r t k M N →
-        ((up role : List ℕ) → Onward up role r x → Pursued up role T l r (term_at b k p.middle) (term_at b k p.to) N P) →
-        FirstWith (start_by axis (site_of b n)) n t (suc k) j → Seen b n axis l x T r t j M P
+    -- A look at the triple that starts at t, past its middle and where it ends, is one more.
+    pub seen_more : {p : Parts} {k j : ℕ} {M N P : Marks} → t < terms → Marked M r t → p ≡ parts_of axis → k < n → start_by axis (site_of b n) k ≡ t →
+        Seen b n axis l up role T r t k M N → Pursued up role T l r (term_at b k p.middle) (term_at b k p.to) N P →
+        FirstWith (start_by axis (site_of b n)) n t (suc k) j → Seen b n axis l up role T r t j M P
     unfolding moved_at
-    seen_more {p} {k} {P = P} e inside here seen look first up role g onward marked =
-        let gone = seen up role g onward marked in
-        let (i, u, v) = goes_along {s = site_of b n} {k = k} (axis_takes axis out.moving) (rw (length-site_of b n) inside) here in
-        let taken = moved_taken {m = moved_at b k p} refl out.good inside axis e out.moving out.known in
-        let went : (i u : ℕ) → Move (site_of b n) (axis_numbered axis) any k t i u → Marking (frame (site_of b n) up role g) T (work_of (axis_numbered axis) l) r _ P × CalmBy (frame (site_of b n) up role g) T l r i u P =
-        λ i u v. went_by l taken (look up role onward) g t i u out.small ((marking_grows gone.made).marked r t marked) v in
-        gone_more b out.moving gone (went i u v).0 (λ i u v. (went i u v).1) first
+    seen_more {p} {k} {P = P} small marked e inside here seen look first g =
+        let gone = seen g in
+        let (i, u, v) = goes_along {s = site_of b n} {k = k} (axis_takes axis) (rw (length-site_of b n) inside) here in
+        let taken = moved_taken {m = moved_at b k p} refl good inside axis e in
+        let went : (i u : ℕ) → Move (site_of b n) (axis_of axis) any k t i u → Marking (frame (site_of b n) up role g) T (work_of (axis_of axis) l) r _ P × CalmBy (frame (site_of b n) up role g) T l r i u P =
+        λ i u v. went_by l taken look g t i u small ((marking_grows gone.made).marked r t marked) v in
+        gone_more b axis gone (went i u v).0 (λ i u v. (went i u v).1) first
 
-    -- The ends stay a table of bits, and keep their length.
-    pub seen_bits : {k : ℕ} {L E : List ℕ} → GoesOn x r t (marks (markeds X) ends) → Seen b n axis l x T r t k (marks (markeds X) ends) (marks L E) →
-        Bits E × (length E ≡ length ends)
-    seen_bits (up, role, onward, marked) seen =
-        let made = (seen up role anywhere onward marked).made in
-        (marking_bits made out.bits, (marking_long made).1)
+    -- The ends stay a table of bits.
+    pub seen_bits : {k : ℕ} {M : Marks} {L E : List ℕ} → Bits M.ends → Seen b n axis l up role T r t k M (marks L E) → Bits E
+    seen_bits bits seen = marking_bits (seen anywhere).made bits
 
   -- The first triple from t by the threads, and the next by threads that were kept.
-  pub first_along : {k : ℕ} → ThreadFirst X axis t k → FirstWith (start_by axis (site_of b n)) n t 0 k
-  first_along first = first b n out.threads out.moving out.known out.small
+  pub first_along : {X : List ℕ} {t k : ℕ} → Threads b n X → t < terms → ThreadFirst X axis t k → FirstWith (start_by axis (site_of b n)) n t 0 k
+  first_along threads small first = first b n threads small
 
-  pub next_along : {Y : List ℕ} {by k j : ℕ} → Kept X Y → by ≡ nexts_of axis → start_by axis (site_of b n) k ≡ t → ThreadNext b n Y by t k j →
-      FirstWith (start_by axis (site_of b n)) n t (suc k) j
-  next_along kept e here next = next.next axis e (threads_kept out.good kept.below out.threads) out.moving out.known here
+  pub next_along : {X Y : List ℕ} {t k j : ℕ} {by : Option ℕ} → Threads b n X → Kept X Y → by ≡ nexts_of axis → start_by axis (site_of b n) k ≡ t →
+      ThreadNext b n Y by t k j → FirstWith (start_by axis (site_of b n)) n t (suc k) j
+  next_along threads kept e here next = next.next axis e (threads_kept good kept.below threads) here

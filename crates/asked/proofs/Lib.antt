@@ -1,9 +1,9 @@
 -- Laws that belong to no one function: the bits of words, marking, which questions are served, and the bridge from marks to questions
 -- and ends.
 pub mod WordBits
+pub mod Splicing
 pub mod ByteBits
 pub mod Marking
-pub mod Clearing
 pub mod Serving
 pub mod OneMark
 pub mod ByMoves

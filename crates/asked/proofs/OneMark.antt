@@ -1,15 +1,15 @@
 -- A set of questions that is marked at a term, and an end: what `mark` and `arrive` leave. What is asked for is marked then, and was
 -- marked rightly, one record after the other.
 use Prim.Native.Nat.{ℕ, zero, suc, ◌*◌, ◌^◌, ◌<◌, ◌≤◌, max}
-use mathlib.Core.Path.{◌≡◌, refl, sym, ap, ◌∙◌}
-use mathlib.Core.Bool.{Bool, true, false, true≢false, false≢true}
+use mathlib.Core.Path.{◌≡◌, refl, sym, ◌∙◌}
+use mathlib.Core.Bool.{Bool, true, false, false≢true}
 use mathlib.Core.Logic.{inl, inr, ◌≢◌}
 use mathlib.Core.List.{List}
 use native.Mathlib.Nat.{le_refl}
 use native.Mathlib.Omega.{arith}
 use native.Mathlib.Decide.{ℕ_discrete, dec_lt}
 use lib.ListN.{length, get_or, set, length-set}
-use lib.Seq.{set-get_or, get_or-set_same}
+use lib.Seq.{get_or-set_same}
 use Rattle.meaning.specs.Limits.{terms, records}
 use Rattle.fewest.specs.Frame.{Frame}
 use Rattle.fewest.specs.Next.{Home}
@@ -18,34 +18,9 @@ use Rattle.fewest.proofs.Places.{place_below, view_set_same, view_set_other}
 use Rattle.asked.specs.Words.{bit, marks_at}
 use Rattle.asked.specs.Mark.{marks, Marked, Done, Asking, Marking, stay, mark, arrive}
 use Rattle.asked.specs.Serve.{markeds, SetMarked}
-use Rattle.asked.specs.Seek.{Bits, MarkedIf, OneArrived, ArrivedIf}
+use Rattle.asked.specs.Seek.{Bits, MarkedIf, OneArrived}
 use Rattle.asked.proofs.Marking.{marking_grows, asking_grows}
 use Rattle.asked.proofs.WordBits.{bit_own, bit_other, same_views, length-questions, questions_bits}
-
--- a mark that is made where a test says so
-module _ {r t : ℕ} {b : List ℕ} {p : Bool} where
-  pub if_marked : {b' : List ℕ} → p ≡ true → SetMarked (2 ^ r) t b b' → MarkedIf p r t b b'
-  if_marked yea m = record { marked = λ _. m; left = λ nay. absurd (true≢false (sym yea ∙ nay)) }
-
-  pub if_left : p ≡ false → MarkedIf p r t b b
-  if_left nay = record { marked = λ yea. absurd (true≢false (sym yea ∙ nay)); left = λ _. refl }
-
--- an end, where a test says so; past the table there is none
-module _ (b : List ℕ) (u : ℕ) {p : Bool} where
-  pub arrived_not : p ≡ false → ArrivedIf p u b b
-  arrived_not nay = record { marked = λ yea. absurd (true≢false (sym yea ∙ nay)); left = λ _. refl }
-
-  pub arrived_outside : p ≡ true → length b ≤ u → ArrivedIf p u b b
-  arrived_outside yea h = record {
-    marked = λ _. record { fresh = λ k _. absurd (omega arith); old = λ _ _. refl; outside = λ _. refl };
-    left = λ nay. absurd (true≢false (sym yea ∙ nay));
-  }
-
-  pub arrived_there : p ≡ true → u < length b → ArrivedIf p u b (set b u 1)
-  arrived_there yea h = record {
-    marked = λ _. record { fresh = λ _ _. refl; old = λ _ e. ap (set b u) (sym e) ∙ set-get_or b u 0; outside = λ k. absurd (omega arith) };
-    left = λ nay. absurd (true≢false (sym yea ∙ nay));
-  }
 
 -- each entry is 0 or 1
 view_bit : (b : List ℕ) (r t : ℕ) → view (markeds b) r t ≤ 1

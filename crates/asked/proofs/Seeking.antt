@@ -18,7 +18,7 @@ use Rattle.fewest.specs.Offer.{Work}
 use Rattle.fewest.specs.Work.{allowing, work_of}
 use Rattle.fewest.proofs.Axes.{Taken}
 use Rattle.fewest.proofs.Looks.{named}
-use Rattle.asked.specs.Mark.{Marks, marks, Marked, by_step, by_test, by_rest, Done, done, Asking, asking, follows, tests, Marking, stay}
+use Rattle.asked.specs.Mark.{Marks, marks, Marked, by_step, by_test, by_rest, Done, done, Asking, asking, follows, tests, Marking}
 use Rattle.asked.specs.declared.follow.After.{After}
 use Rattle.asked.specs.Serve.{markeds, SetMarked}
 use Rattle.asked.specs.Seek.{Bits, MarkedIf, is_test, OneArrived, ArrivedIf, Onward, FollowedUp, CalmBy, Goes, along, at_name, in_place, Pursued}
@@ -89,22 +89,6 @@ module _ {up role : List ℕ} (T : List ℕ) (l : Label) {r i u : ℕ} {b ends :
       let (made, tested) = ask from m goes in
       let (last, next) = followed s g T w (goes_done goes ((marking_grows made).marked r t m) from passes) in
       (marking_then made last, record { test = λ e. (marking_grows last).marked (r - 1) i (tested (rw e)); next = λ _. next })
-
--- a label that is no test
-no_test : {l : Label} → is_test l ≡ false → l ≡ Test → ⊥
-no_test free e = true≢false (rw e at free)
-
--- Such a label asks nothing at the middle.
-module _ {up role : List ℕ} (T : List ℕ) (l : Label) {r i u : ℕ} {M : Marks} (free : is_test l ≡ false) where
-  -- It does not allow the middle: nothing is asked at all.
-  pub free_barred : allowing T l r i ≡ false → Pursued up role T l r i u M M
-  free_barred bars s g w t from m goes = (stay, record { test = λ e. absurd (no_test free e); next = λ e. absurd (true≢false (sym e ∙ bars)) })
-
-  -- It allows it, and what follows at u was marked.
-  pub free_passes : {N : Marks} → allowing T l r i ≡ true → FollowedUp up role r u M N → Pursued up role T l r i u M N
-  free_passes passes followed s g w t from m goes =
-      let (made, next) = followed s g T w (goes_done goes m from passes) in
-      (made, record { test = λ e. absurd (no_test free e); next = λ _. next })
 
 -- A look at the one move of triple number k is a look at the triple.
 pub went_by : {s : Site} {up role T : List ℕ} {a : Axis} (l : Label) {r k : ℕ} {m : Moved} {M N : Marks} → Taken s k a m →

@@ -2,13 +2,13 @@
 -- no question, to take one up serves it, and a byte that is queued touches neither.
 use Prim.Native.Nat.{ℕ, ◌+◌, ◌*◌, ◌-◌, ◌^◌, ◌<◌, ◌≤◌}
 use mathlib.Core.Path.{◌≡◌, refl, sym, ap, ◌∙◌}
-use mathlib.Core.Bool.{true, false, true≢false, false≢true}
-use mathlib.Core.Logic.{◌≢◌, ◌⊎◌, inl, inr, ⊎_elim}
+use mathlib.Core.Bool.{true, true≢false}
+use mathlib.Core.Logic.{◌≢◌, ◌⊎◌, inl, inr}
 use mathlib.Core.List.{List}
 use native.Mathlib.Nat.{le_refl}
 use native.Mathlib.Omega.{arith}
 use native.Mathlib.Decide.{ℕ_discrete, dec_lt}
-use lib.Bits.{bit_and, bit_or, bit_xor}
+use lib.Bits.{bit_or, bit_xor}
 use lib.ListN.{length, get_or, set, length-set, get_or-eq_default}
 use lib.Seq.{get_or-set_other}
 use Rattle.meaning.specs.Limits.{terms, records}
@@ -18,10 +18,10 @@ use Rattle.fewest.proofs.Keeping.{kept_bytes, kept_byte}
 use Rattle.fewest.proofs.Places.{place_below, view_set_same, view_set_other}
 use Rattle.asked.specs.Words.{size, bit, word, WordPut, marks_at, waits_at, questions}
 use Rattle.asked.specs.Mark.{blank}
-use Rattle.asked.specs.Serve.{markeds, waitings, Waits, serveds, Fewer, Kept, Aside, Renewed, SetMarked, OneServed, TakenUp, most, Picked}
+use Rattle.asked.specs.Serve.{markeds, waitings, Waits, serveds, Fewer, Kept, Aside, Renewed, SetMarked, OneServed, TakenUp}
 use Rattle.asked.specs.Seek.{Bits}
 use Rattle.asked.proofs.Marking.{blank_mark}
-use Rattle.asked.proofs.WordBits.{length-listed, get_or-listed, same_views, length-questions, view_questions, same_word, words_apart, word_others, bit_of_or, bit_of_and, bit_of_xor, bit_own, bit_other, has_one, has_none, questions_bits}
+use Rattle.asked.proofs.WordBits.{length-listed, get_or-listed, same_views, length-questions, view_questions, same_word, words_apart, word_others, bit_of_or, bit_of_xor, bit_own, bit_other, questions_bits}
 
 -- the word of term t
 abbrev pub mark_of : List ℕ → ℕ → ℕ
@@ -151,19 +151,10 @@ module _ {set t : ℕ} {b : List ℕ} (h : t < terms) where
     kept = kept_none b;
   }
 
--- What is aside changes nothing of it.
-pub marked_aside : {set t : ℕ} {b c d : List ℕ} → SetMarked set t b c → Aside c d → SetMarked set t b d
-marked_aside marked aside = record {
-  there = λ r h. rw aside.same (marked.there r h);
-  others = λ r u h k apart. rw aside.same (marked.others r u h k apart);
-  kept = kept_then marked.kept aside.kept;
-}
-
--- A question is taken up, or it does not wait.
+-- A question that waits is taken up.
 module _ (b : List ℕ) {r t : ℕ} (row : r < records) (h : t < terms) where
-  pub taken_up : {d : List ℕ} → WordPut (waits_at + size * t) (bit_xor (wait_of b t) (2 ^ r)) b d →
-      bit_and (bit_and (mark_of b t) (wait_of b t)) (2 ^ r) ≢ 0 → TakenUp r t b d true
-  taken_up {d} put e = record {
+  pub taken_up : {d : List ℕ} → WordPut (waits_at + size * t) (bit_xor (wait_of b t) (2 ^ r)) b d → Waits b (place r t) → TakenUp r t b d true
+  taken_up {d} put waits = record {
     long = put.long;
     same = same_questions marks_at b d marks;
     below = (kept_bytes put.long (λ i k. put.others i (inl (omega arith)))).same;
@@ -173,10 +164,7 @@ module _ (b : List ℕ) {r t : ℕ} (row : r < records) (h : t < terms) where
   }
     where
       both : (bit (mark_of b t) r ≡ 1) × (bit (wait_of b t) r ≡ 1)
-      both = let k = has_one (bit_and (mark_of b t) (wait_of b t)) r e in let m = bit_of_and (mark_of b t) (wait_of b t) r in (omega arith, omega arith)
-
-      waits : Waits b (place r t)
-      waits = waits_by b r t row h both.0 both.1
+      both = waits_bits b r t row h waits
 
       marks : (u : ℕ) → u < terms → mark_of d u ≡ mark_of b u
       marks u k = word_others put (marks_at + size * u) (inl (omega arith))
@@ -204,21 +192,6 @@ module _ (b : List ℕ) {r t : ℕ} (row : r < records) (h : t < terms) where
       one : serveds d ≡ set (serveds b) (place r t) 1
       one = same_views (serveds d) (set (serveds b) (place r t) 1) (length-serveds d) (length-set (serveds b) (place r t) 1 ∙ length-serveds b) view_one
 
-  pub left_there : bit_and (bit_and (mark_of b t) (wait_of b t)) (2 ^ r) ≡ 0 → TakenUp r t b b false
-  left_there e = record {
-    long = refl;
-    same = refl;
-    below = λ j k. refl;
-    served = record { waited = λ w. absurd (none w); left = λ _. refl };
-    waited = λ yea. absurd (false≢true yea);
-    left = λ _. refl;
-  }
-    where
-      none : Waits b (place r t) → ⊥
-      none w =
-          let (m, k) = waits_bits b r t row h w in
-          has_none (bit_and (mark_of b t) (wait_of b t)) r e (omega (arith, bit_of_and (mark_of b t) (wait_of b t) r))
-
 -- One question more is served, if it waited.
 module _ {r t : ℕ} {b d : List ℕ} (one : OneServed r t b d) (h : place r t < records * terms) where
   pub one_falls : Waits b (place r t) → Fewer b d
@@ -238,9 +211,3 @@ pub turned : {from t r : ℕ} {b₀ b d : List ℕ} → ((b ≡ b₀) × (r ≡ 
     OneServed r t b d → Waits b₀ (place from t) → Fewer b₀ d
 turned (inl (same, is)) h one w = one_falls (rw (same, is) at one) (rw is at h) w
 turned (inr falls) h one w = omega (arith, falls w, one_fewer one h)
-
--- A turn at the question that is next uses up the queue, or serves a question.
-pub turn_falls : {n head tail later i : ℕ} {b : List ℕ} (d : List ℕ) → Picked n head tail b i → i < n * terms → (head ≤ later) × (head < most → head < tail → head < later) →
-    blank (serveds d) ≤ blank (serveds b) → (Waits b i → Fewer b d) → most - later + blank (serveds d) < most - head + blank (serveds b)
-turn_falls d picked h (up, on) fewer falls =
-    ⊎_elim (λ (low, room). let next = on low room in omega arith) (λ w. let fall = falls w in omega arith) (picked.one h)

@@ -3,20 +3,21 @@
 use Prim.Native.Nat.{ℕ, zero, suc, ◌+◌, ◌*◌, ◌-◌, ◌/◌, ◌%◌, ◌^◌, ◌<◌, ◌≤◌, min, max}
 use mathlib.Core.Path.{◌≡◌, refl, sym, ap, ◌∙◌}
 use mathlib.Core.Logic.{◌≢◌, ◌⊎◌, inl, inr, ⊎_elim}
-use mathlib.Core.List.{List}
-use native.Mathlib.Nat.{zero-div, div-eq_of_lt, mod-eq_of_lt, div-add-mod', pow-suc}
+use mathlib.Core.List.{List, [], ◌∷◌}
+use native.Mathlib.Nat.{zero-div, div-eq_of_lt, pow-suc}
 use native.Mathlib.Omega.{arith}
 use native.Mathlib.Decide.{dec_lt, ℕ_discrete}
 use lib.Arith.{digits_div, digits_mod}
-use lib.Bits.{bit_and, bit_or, bit_xor, differ, and_high, and_shr, and_step, or_lt, or_shr, or_step, xor_lt, xor_shr, xor_step}
-use lib.ListN.{length, get_or, set, length-set, get_or-eq_default}
+use lib.Bits.{bit_and, bit_or, bit_xor, differ, and_high, and_shr, and_step, or_lt, or_shr, or_step, xor_shr, xor_step}
+use lib.ListN.{length, get_or, get_or-eq_default}
 use lib.Pow.{pow-add, pow-lt, pow_pos, shl-shr}
-use lib.Seq.{ext_get_or, get_or-set_same, get_or-set_other}
+use lib.Seq.{ext_get_or}
 use Rattle.meaning.specs.Limits.{terms, records}
 use Rattle.records.specs.Bytes.{base}
 use Rattle.fewest.specs.Offer.{place, view}
 use Rattle.fewest.proofs.Places.{place_below}
 use Rattle.asked.specs.Words.{eight, size, sets, bit, word, WordPut, listed, questions}
+use Rattle.asked.specs.Narrow.{Written}
 use Rattle.asked.specs.Seek.{Bits}
 
 -- The bits of what is joined, met or told apart.
@@ -132,9 +133,6 @@ word_others {at} {b = b} {d} put i (inr h) = same_word b d i (λ k l. put.others
 pub or_small : {a b : ℕ} → a < sets → b < sets → bit_or a b < sets
 or_small {a} {b} h k = or_lt (eight * size) a b h k
 
-pub xor_small : {a b : ℕ} → a < sets → b < sets → bit_xor a b < sets
-xor_small {a} {b} h k = xor_lt (eight * size) a b h k
-
 -- Each question's entry is 0 or 1.
 pub questions_bits : (at : ℕ) (b : List ℕ) → Bits (questions at b)
 unfolding Bits questions
@@ -143,33 +141,18 @@ questions_bits at b i = elim (dec_lt i (records * terms)) [
   | no h ↦ omega (arith, get_or-eq_default (questions at b) 0 {n = i} (omega (arith, length-questions at b)))
 ]
 
--- Four stores, one behind the other, put a word.
-module _ (b : List ℕ) (at w : ℕ) (room : at + size < length b + 1) (small : w < sets) where
-  abbrev first : List ℕ
-  first = set b at (w % base)
-
-  abbrev second : List ℕ
-  second = set first (at + 1) (w / base % base)
-
-  abbrev third : List ℕ
-  third = set second (at + 2) (w / base / base % base)
-
-  abbrev fourth : List ℕ
-  fourth = set third (at + 3) (w / base / base / base % base)
-
-  pub put_done : WordPut at w b fourth
-  put_done = record {
-    long = simp length-set;
-    stored =
-        let one : get_or fourth at 0 ≡ w % base = rw (get_or-set_other third (at + 3) at (w / base / base / base % base) 0 (omega arith), get_or-set_other second (at + 2) at (w / base / base % base) 0 (omega arith), get_or-set_other first (at + 1) at (w / base % base) 0 (omega arith)) (get_or-set_same b at (w % base) 0 (omega arith)) in
-        let two : get_or fourth (at + 1) 0 ≡ w / base % base = rw (get_or-set_other third (at + 3) (at + 1) (w / base / base / base % base) 0 (omega arith), get_or-set_other second (at + 2) (at + 1) (w / base / base % base) 0 (omega arith)) (get_or-set_same first (at + 1) (w / base % base) 0 (simp length-set (omega arith))) in
-        let three : get_or fourth (at + 2) 0 ≡ w / base / base % base = rw (get_or-set_other third (at + 3) (at + 2) (w / base / base / base % base) 0 (omega arith)) (get_or-set_same second (at + 2) (w / base / base % base) 0 (simp length-set (omega arith))) in
-        let four : get_or fourth (at + 3) 0 ≡ w / base / base / base % base = get_or-set_same third (at + 3) (w / base / base / base % base) 0 (simp length-set (omega arith)) in
-        let least : w / base / base / base % base ≡ w / base / base / base = mod-eq_of_lt (omega arith) in
-        rw (word_four fourth at, one, two, three, four, least, div-add-mod' (w / base / base) base, div-add-mod' (w / base) base) (div-add-mod' w base);
-    others = λ i apart. rw (get_or-set_other third (at + 3) i (w / base / base / base % base) 0 (away i apart 3 (omega arith)), get_or-set_other second (at + 2) i (w / base / base % base) 0 (away i apart 2 (omega arith)), get_or-set_other first (at + 1) i (w / base % base) 0 (away i apart 1 (omega arith))) (get_or-set_other b at i (w % base) 0 (⊎_elim (λ h. omega arith) (λ h. omega arith) apart));
-  }
-    where
-      away : (i : ℕ) → (i < at) ⊎ (at + size ≤ i) → (k : ℕ) → k < size → i ≢ at + k
-      away i (inl h) k l = omega arith
-      away i (inr h) k l = omega arith
+-- Its four bytes, lowest first, put a word.
+pub put_done : {at w : ℕ} {b d bytes : List ℕ} → w < sets →
+    bytes ≡ w % base ∷ (w / base % base ∷ (w / (base * base) % base ∷ (w / (base * base * base) % base ∷ []))) →
+    Written at size (λ i. get_or bytes i 0) b d → WordPut at w b d
+put_done {at} {w} {b} {d} small are put = record {
+  long = put.long;
+  stored =
+      let here : at + 0 ≡ at = omega arith in
+      let first = rw (here, are) at (put.there 0 (omega arith)) in
+      let second = rw are at (put.there 1 (omega arith)) in
+      let third = rw are at (put.there 2 (omega arith)) in
+      let fourth = rw are at (put.there 3 (omega arith)) in
+      word_four d at ∙ omega (arith, first, second, third, fourth);
+  others = λ i apart. ⊎_elim (put.below i) (put.above i) apart;
+}

@@ -1,6 +1,6 @@
 -- What the chase promises. A question that is asked on asks for nothing unmarked, and stays so, because marks only grow.
 -- Where it looks and in what order is a hint and promised of nothing.
-use Rattle.std.specs.Prelude.{ℕ, ◌<◌, ◌≤◌, ◌≡◌, ◌≢◌, length, get_or}
+use Rattle.std.specs.Prelude.{ℕ, ◌<◌, ◌≤◌, ◌≡◌, length, get_or}
 use mathlib.Core.List.{List, Memᴰ}
 use Rattle.meaning.specs.Limits.{terms}
 use Rattle.meaning.specs.Move.{self}
@@ -10,46 +10,24 @@ use Rattle.records.specs.declared.Label.{Label}
 use Rattle.records.specs.declared.Label.TheVariants.{Any}
 use Rattle.records.specs.declared.Step.{Step}
 use Rattle.records.specs.declared.Record.{Record}
-use Rattle.records.specs.Sites.{site_of, Accepted}
-use Rattle.records.specs.Rules.{last_axis, axis_numbered, rec_of, records_of}
+use Rattle.records.specs.Sites.{site_of}
+use Rattle.records.specs.Rules.{axis_meant, rec_of, records_of}
 use Rattle.fewest.specs.Frame.{Frame, frame}
 use Rattle.fewest.specs.Kept.{Below}
 use Rattle.fewest.specs.Offer.{Work, resting, works_of}
 use Rattle.fewest.specs.Threads.{Threads}
 use Rattle.fewest.specs.Work.{work_of, Nameless, Rows}
-use Rattle.asked.specs.declared.follow.After.{After}
-use Rattle.asked.specs.Mark.{Marks, marks, blank, Marked, Marking, CalmAt, MarksOn}
+use Rattle.asked.specs.Mark.{Marks, marks, blank, Marking, CalmAt, MarksOn}
 use Rattle.asked.specs.Serve.{markeds, serveds, Served}
-use Rattle.asked.specs.Seek.{Whole, Bits, Onward}
 
 -- the question of record r at t was asked on by this work: only what it asks for was marked, and nothing of it is unmarked
 abbrev pub WorkAsked : Frame → List ℕ → Work → ℕ → ℕ → Marks → Marks → Type 0
 WorkAsked F T w r t M M' = Marking F T w r M M' × CalmAt F T w r t M'
 
--- what going from t by the threads of an axis stands on: a good site, an axis that takes triples, and tables with their threads
-pub record SetsOut (b : List ℕ) (n axis t : ℕ) (X ends : List ℕ) : Type 0 where
-  pub good : Accepted b n
-  pub moving : axis ≢ 0
-  pub known : axis ≤ last_axis
-  pub small : t < terms
-  pub threads : Threads b n X
-  pub whole : Whole X
-  pub bits : Bits ends
-
--- so record r goes on where its expression is done, in some rule, and its question at t is marked
-abbrev pub GoesOn : After → (r t : ℕ) → Marks → Type 0
-GoesOn x r t M = (up : List ℕ) × (role : List ℕ) × Onward up role r x × Marked M r t
-
--- by a step along this axis with this label, in each rule in which record r goes on so
-abbrev pub Went : List ℕ → (n axis : ℕ) → Label → After → List ℕ → (r t : ℕ) → Marks → Marks → Type 0
-Went b n axis l x T r t M M' =
-    (up role : List ℕ) (g : Goal) → Onward up role r x → Marked M r t →
-    WorkAsked (frame (site_of b n) up role g) T (work_of (axis_numbered axis) l) r t M M'
-
 -- by a step
 abbrev pub StepAsked : List ℕ → ℕ → Step → List ℕ → List ℕ → List ℕ → ℕ → ℕ → Marks → Marks → Type 0
 StepAsked b n x up role T r t M M' =
-    (g : Goal) → WorkAsked (frame (site_of b n) up role g) T (work_of (axis_numbered x.axis) x.label) r t M M'
+    (g : Goal) → WorkAsked (frame (site_of b n) up role g) T (work_of (axis_meant x.axis) x.label) r t M M'
 
 -- the work that a stay with this label is: a star's empty round has no label, a self step has its own
 pub data Stay : Label → Work → Type 0 where

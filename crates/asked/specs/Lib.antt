@@ -4,5 +4,6 @@ pub mod Mark
 pub mod Serve
 pub mod Seek
 pub mod Chase
+pub mod Task
 pub mod Narrow
 pub mod Count

@@ -15,7 +15,7 @@ use Rattle.fewest.specs.Offer.{Work, stepping, resting}
 use Rattle.fewest.specs.Work.{work_of, allowing}
 use Rattle.asked.specs.declared.follow.After.{After}
 use Rattle.asked.specs.Words.{sets, bit}
-use Rattle.asked.specs.Mark.{Marks, Marked, Done, Marking, MarkedFrom}
+use Rattle.asked.specs.Mark.{Marks, marks, Marked, Done, Marking, MarkedFrom}
 use Rattle.asked.specs.Serve.{markeds, SetMarked}
 
 -- the byte table has its length
@@ -25,6 +25,10 @@ Whole b = length b ≡ records * terms
 -- each entry is 0 or 1
 unfoldable pub Bits : List ℕ → Type 0
 Bits b = (i : ℕ) → get_or b i 0 ≤ 1
+
+-- the marks of the byte table's words, and the ends
+abbrev pub marks_in : List ℕ → List ℕ → Marks
+marks_in b ends = marks (markeds b) ends
 
 -- the question of record r at t is marked where this says so, and else none is
 pub record MarkedIf (p : Bool) (r t : ℕ) (b b' : List ℕ) : Type 0 where

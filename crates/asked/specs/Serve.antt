@@ -1,6 +1,6 @@
 -- Which questions are marked and which wait to be asked on, in the words of the byte table. A question that was asked on is served;
 -- what is done for others leaves it so, and leaves the threads before the words.
-use Rattle.std.specs.Prelude.{ℕ, ◌+◌, ◌*◌, ◌-◌, ◌<◌, ◌≤◌, max, ◌≡◌, Bool, true, false, ◌⊎◌, ◌≢◌, List, length, get_or, set}
+use Rattle.std.specs.Prelude.{ℕ, Option, None, Some, ◌+◌, ◌*◌, ◌-◌, ◌<◌, max, ◌≡◌, Bool, true, false, ◌⊎◌, ◌≢◌, List, length, get_or, set}
 use Rattle.std.specs.Int.Bits.{bit_xor}
 use Rattle.meaning.specs.Limits.{terms, records}
 use Rattle.fewest.specs.Kept.{Below}
@@ -25,10 +25,10 @@ pub record Waits (b : List ℕ) (i : ℕ) : Type 0 where
 abbrev pub NoneWaits : List ℕ → ℕ → Type 0
 NoneWaits b n = (i : ℕ) → i < n → Waits b i → ⊥
 
--- the place of a question of the first n records that waits; where it is none of theirs, none does
-pub record LeftOver (n : ℕ) (b : List ℕ) (i : ℕ) : Type 0 where
-  pub none : n * terms ≤ i → NoneWaits b (n * terms)
-  pub one : i < n * terms → Waits b i
+-- a question of the first n records that waits, if one does
+abbrev pub LeftOver : ℕ → List ℕ → Option (ℕ × ℕ) → Type 0
+LeftOver n b None = NoneWaits b (n * terms)
+LeftOver n b (Some (r, t)) = (r < n) × (t < terms) × Waits b (place r t)
 
 -- 1 where a question is marked and does not wait
 unfoldable pub serveds : List ℕ → List ℕ
@@ -85,7 +85,7 @@ pub record TakenUp (r t : ℕ) (b b' : List ℕ) (took : Bool) : Type 0 where
 abbrev pub most : ℕ
 most = 4 * records * terms
 
--- the question at this place is next: at the term at the head of the queue, or one that waits; where it is none, none does
-pub record Picked (n head tail : ℕ) (b : List ℕ) (i : ℕ) : Type 0 where
-  pub none : n * terms ≤ i → NoneWaits b (n * terms)
-  pub one : i < n * terms → ((head < most) × (head < tail)) ⊎ Waits b i
+-- the question that is next, of the first n records: at the term at the head of the queue, or one that waits, if one does
+abbrev pub Picked : (n head tail : ℕ) → List ℕ → Option (ℕ × ℕ) → Type 0
+Picked n head tail b None = NoneWaits b (n * terms)
+Picked n head tail b (Some (r, t)) = (r < n) × (t < terms) × (((head < most) × (head < tail)) ⊎ Waits b (place r t))

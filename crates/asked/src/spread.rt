@@ -2,62 +2,50 @@
 ghost use Rattle.std.specs.Prelude.{◌≡◌, ◌*◌, ◌<◌, length, replicate};
 ghost use Rattle.meaning.specs.Limits.{terms, records};
 ghost use Rattle.fewest.specs.Kept.{Kept};
-ghost use Rattle.fewest.specs.Pairs.{pairs};
-ghost use Rattle.fewest.specs.Table.{Full};
-ghost use Rattle.fewest.specs.Threads.{Threads};
-ghost use Rattle.fewest.specs.Work.{Ready};
 ghost use Rattle.asked.specs.Mark.{marks};
 ghost use Rattle.asked.specs.Serve.{markeds};
-ghost use Rattle.asked.specs.Seek.{Whole, MarkedOver};
+ghost use Rattle.asked.specs.Task.{ThreadsIn, MarkedIn};
 
 use crate::chase::chase;
 use crate::mark::{MARKS, mark_on};
-use crate::narrow::{clear_row, clear_rows, narrow};
+use crate::narrow::{clear_rows, narrow};
 use crate::words::only;
-use records::{RECORDS, TERMS};
+use fewest::table::{ENTRIES, NUMBERS};
+use fewest::task::Task;
+use records::TERMS;
 
 // The first row of those that the words take.
 const WORDS: usize = MARKS / TERMS;
 
 // The byte table is filled with 0.
-pub fn clear(asked: &mut [u8])
-    requires { Whole asked.old }
+pub fn clear(asked: &mut [u8; ENTRIES])
     ensures { asked.new ≡ replicate (records * terms) 0 }
 {
-    clear_rows(asked, 0)
+    asked.fill(0);
 }
 
 // No question is marked or waits; the threads are kept.
-fn free(asked: &mut [u8])
-    requires { Whole asked.old }
+fn free(asked: &mut [u8; ENTRIES])
     ensures { (markeds asked.new ≡ replicate (records * terms) 0) × Kept asked.old asked.new }
 {
     clear_rows(asked, WORDS)
 }
 
 // The questions that the whole rule asks at the start, and the ends that it leads to, where a table of ends is lent.
-pub fn ask<'a>(
-    site: &[u8],
-    triples: usize,
-    rule: &[u8],
-    starts: &[u8; RECORDS],
-    count: usize,
-    up: &'a [u8; RECORDS],
-    role: &'a [u8; RECORDS],
-    first: &'a [u8; RECORDS],
-    numbers: &[u8],
+pub fn ask(
+    task: &Task,
+    numbers: &[u8; NUMBERS],
     start: usize,
-    asked: &mut [u8],
+    asked: &mut [u8; ENTRIES],
     ends: &mut [u8],
 )
-    requires { Ready site.now triples rule.now starts.now count up.now role.now first.now × Full numbers.now × Whole asked.old × (0 < count) × (start < terms) × Threads site.now triples asked.old }
-    ensures { MarkedOver site.now triples rule.now up.now role.now first.now (pairs numbers.now) start (length ends.old) (marks asked.new ends.new) }
+    requires { (0 < task.now.rule.count) × (start < terms) × ThreadsIn task.now asked.old }
+    ensures { MarkedIn task.now numbers.now start (length ends.old) (marks asked.new ends.new) }
 {
     free(asked);
-    clear_row(ends);
-    let tail = mark_on(asked, only(count - 1), start, 0);
-    chase(
-        site, triples, rule, starts, count, up, role, first, numbers, asked, ends, tail,
-    );
-    narrow(asked, count)
+    ends.fill(0);
+    let mut tail = 0;
+    mark_on(asked, &mut tail, only(task.rule.count - 1), start);
+    chase(task, numbers, asked, ends, tail);
+    narrow(asked, task.rule.count);
 }

@@ -2,39 +2,32 @@
 // The rest of the crate knows a set by its bits alone.
 ghost use Rattle.std.specs.Prelude.{◌≡◌, ◌+◌, ◌^◌, ◌<◌, length};
 ghost use Rattle.meaning.specs.Limits.{records};
-ghost use Rattle.asked.specs.Words.{size, sets, word, WordPut};
-
-use fewest::pairs::wide;
-use records::bytes::BASE;
+ghost use Rattle.asked.specs.Words.{size, word, WordPut};
 
 // A word has so many bytes.
 pub const SIZE: usize = 4;
 
 // The set of this record alone.
-pub fn only(r: usize) -> usize
+#[tactic(auto, unfolding(meaning::specs::Limits::records))]
+pub fn only(r: usize) -> u32
     requires { r < records }
-    ensures { (result ≡ 2 ^ r) × (result < sets) }
+    ensures { result ≡ 2 ^ r }
 {
     1 << r
 }
 
 // The set whose word begins at this place.
-pub fn word(asked: &[u8], at: usize) -> usize
+pub fn word(asked: &[u8], at: usize) -> u32
     requires { at + size < length asked.now + 1 }
-    ensures { (result ≡ word asked.now at) × (result < sets) }
+    ensures { result ≡ word asked.now at }
 {
-    let low = wide(asked[at + 1]) * BASE + wide(asked[at]);
-    let high = wide(asked[at + 3]) * BASE + wide(asked[at + 2]);
-    high * BASE * BASE + low
+    u32::from_le_bytes([asked[at], asked[at + 1], asked[at + 2], asked[at + 3]])
 }
 
 // The word that begins at this place takes a set.
-pub fn put_word(asked: &mut [u8], at: usize, set: usize)
-    requires { (at + size < length asked.old + 1) × (set < sets) }
+pub fn put_word(asked: &mut [u8], at: usize, set: u32)
+    requires { at + size < length asked.old + 1 }
     ensures { WordPut at set asked.old asked.new }
 {
-    asked[at] = (set % BASE) as u8;
-    asked[at + 1] = (set / BASE % BASE) as u8;
-    asked[at + 2] = (set / BASE / BASE % BASE) as u8;
-    asked[at + 3] = (set / BASE / BASE / BASE % BASE) as u8;
+    asked[at..at + SIZE].copy_from_slice(&set.to_le_bytes());
 }

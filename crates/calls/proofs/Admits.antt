@@ -1,25 +1,25 @@
 -- What an admission tells the call that asked for it: it refuses so, or it answers for an expression, and its work may begin.
 -- A call that takes no start or no end has passed 0 in its place, which is a term and never refused.
 use Prim.Native.Nat.{ℕ, ◌+◌, ◌<◌, ◌≤◌}
-use mathlib.Core.Path.{◌≡◌, refl, ◌∙◌}
+use mathlib.Core.Path.{◌≡◌, ◌∙◌}
 use mathlib.Core.List.{List, [], ◌∷◌}
 use native.Mathlib.Omega.{arith}
 use lib.ListN.{length}
-use Rattle.meaning.specs.Limits.{terms}
+use Rattle.meaning.specs.Limits.{terms, records}
 use Rattle.meaning.specs.Expression.{Expr, size, last, Expression}
 use Rattle.meaning.proofs.Names.{size_positive, last_number}
 use Rattle.meaning.proofs.Postfix.{expression_long, leaves_expression}
 use Rattle.records.specs.declared.Refusal.{Refusal}
-use Rattle.records.specs.declared.rule.RuleAnswer.TheVariants.{Rule}
 use Rattle.records.specs.Rules.{records_of}
 use Rattle.records.proofs.Sites.{checked_site}
 use Rattle.records.proofs.Checked.{rule_leaves}
-use Rattle.fewest.specs.declared.links.Links.{Links}
+use Rattle.fewest.specs.Frame.{Links}
 use Rattle.fewest.specs.Frame.{Linked}
 use Rattle.fewest.specs.Work.{Ready}
 use Rattle.fewest.proofs.Readiness.{ready}
-use Rattle.calls.specs.Admission.{AskedOf, starting, ending, Amiss, here, later, Fine, none, also, Refuses, by_length, by_query, Admits}
-use Rattle.calls.specs.Inner.{Given, TurnedAway, by_start, by_end}
+use Rattle.calls.specs.Admission.{AskedOf, starting, ending, Amiss, here, later, Fine, none, also, Refuses, by_query, Admits}
+use Rattle.calls.specs.Given.{Read, Given}
+use Rattle.calls.specs.Inner.{TurnedAway, by_start, by_end}
 
 -- 0 is a term
 zero_fits : terms ≤ 0 → ⊥
@@ -51,38 +51,32 @@ module _ {F : Type 0} {s r : List ℕ} (fits : F) where
   pub turned_refuses_none : {x : Refusal} → TurnedAway s r 0 0 x → Refuses F s r [] x
   turned_refuses_none = refuses _ (λ h. absurd (zero_fits h)) (λ h k. absurd (zero_fits k))
 
--- Two calls of whose tables both fit refuse alike,
-pub refuses_as : {F G : Type 0} {s r : List ℕ} {qs : List AskedOf} {x : Refusal} → F → G → Refuses F s r qs x → Refuses G s r qs x
-refuses_as f g (by_length wrong) = absurd (wrong f)
-refuses_as f g (Refuses.by_site h c) = Refuses.by_site g c
-refuses_as f g (Refuses.by_rule h c d) = Refuses.by_rule g c d
-refuses_as f g (by_query h c d amiss) = by_query g c d amiss
-
--- and answer alike.
-pub admits_as : {F G : Type 0} {s r : List ℕ} {qs : List AskedOf} {n : ℕ} {e : Expr} → G → Admits F s r qs n e → Admits G s r qs n e
-admits_as g a = record { fits = g; count = a.count; site = a.site; rule = a.rule; expression = a.expression; query = a.query }
-
-module _ {s r : List ℕ} {n c : ℕ} {starts : List ℕ} {L : Links} (given : Given s r n c starts L) where
+module _ {s r : List ℕ} {n c : ℕ} {starts : List ℕ} (read : Read s r n c starts) where
   -- The records of the rule are an expression.
-  pub given_expression : (e : Expr) × Expression (records_of r) e
-  given_expression = leaves_expression (rule_leaves given.rule).0
+  pub read_expression : (e : Expr) × Expression (records_of r) e
+  read_expression = leaves_expression (rule_leaves read.rule).0
 
   -- The count is the number of its records,
-  pub given_counted : c ≡ length (records_of r)
-  given_counted = (rule_leaves given.rule).1
+  pub read_counted : c ≡ length (records_of r)
+  read_counted = (rule_leaves read.rule).1
 
   -- which is the expression's size,
-  pub given_size : {e : Expr} → Expression (records_of r) e → c ≡ size e
-  given_size x = given_counted ∙ expression_long x
+  pub read_size : {e : Expr} → Expression (records_of r) e → c ≡ size e
+  read_size x = read_counted ∙ expression_long x
 
   -- one more than the number of its last record,
-  pub given_last : {e : Expr} → Expression (records_of r) e → last e + 1 ≡ c
-  given_last {e} x = omega (arith, last_number 0 e x.numbered, given_size x)
+  pub read_last : {e : Expr} → Expression (records_of r) e → last e + 1 ≡ c
+  read_last {e} x = omega (arith, last_number 0 e x.numbered, read_size x)
 
   -- and not 0.
-  pub given_some : 0 < c
-  given_some = let (e, x) = given_expression in omega (arith, size_positive e, given_size x)
+  pub read_some : 0 < c
+  read_some = let (e, x) = read_expression in omega (arith, size_positive e, read_size x)
 
+  -- They are few enough.
+  pub read_few : c ≤ records
+  read_few = (rule_leaves read.rule).2
+
+module _ {s r : List ℕ} {n c : ℕ} {starts : List ℕ} {L : Links} (given : Given s r n c starts L) where
   -- The links are the expression's,
   pub given_linked : {e : Expr} → Expression (records_of r) e → Linked e L
   given_linked x = given.links.linked _ x
@@ -90,28 +84,28 @@ module _ {s r : List ℕ} {n c : ℕ} {starts : List ℕ} {L : Links} (given : G
   -- and the sweeps may begin.
   pub given_ready : Ready s n r starts c L.up L.role L.first
   given_ready =
-      ready {x = record { answer = Rule c; starts = starts }} (checked_site given.site)
-      (record { answer = given.rule; starts = given.places }) refl given.links
+      let read = given.read in
+      ready {x = record { count = c; starts = starts }} (checked_site read.site) (record { answer = read.rule; starts = read.places }) given.links
 
-module _ {F : Type 0} {s r : List ℕ} {n c : ℕ} {starts : List ℕ} {L : Links} (fits : F) (given : Given s r n c starts L) where
+module _ {F : Type 0} {s r : List ℕ} {n c : ℕ} {starts : List ℕ} (fits : F) (read : Read s r n c starts) where
   -- where the query's terms are terms, the call answers
   admits : {qs : List AskedOf} → Fine qs → (e : Expr) × Admits F s r qs n e
   admits fine =
-      let (e, x) = given_expression given in
-      (e, record { fits = fits; count = c; site = given.site; rule = given.rule; expression = x; query = fine })
+      let (e, x) = read_expression read in
+      (e, record { fits = fits; count = c; site = read.site; rule = read.rule; expression = x; query = fine })
 
   -- A call that is given a site and a rule answers for the expression of the rule's records:
-  pub given_admits : {z v : ℕ} → z < terms → v < terms → (e : Expr) × Admits F s r (starting z ∷ (ending v ∷ [])) n e
-  given_admits start end = admits (also start (also end none))
+  pub read_admits : {z v : ℕ} → z < terms → v < terms → (e : Expr) × Admits F s r (starting z ∷ (ending v ∷ [])) n e
+  read_admits start end = admits (also start (also end none))
 
   -- one that takes no end,
-  pub given_admits_start : {z : ℕ} → z < terms → (e : Expr) × Admits F s r (starting z ∷ []) n e
-  given_admits_start start = admits (also start none)
+  pub read_admits_start : {z : ℕ} → z < terms → (e : Expr) × Admits F s r (starting z ∷ []) n e
+  read_admits_start start = admits (also start none)
 
   -- one that takes no start,
-  pub given_admits_end : {v : ℕ} → v < terms → (e : Expr) × Admits F s r (ending v ∷ []) n e
-  given_admits_end end = admits (also end none)
+  pub read_admits_end : {v : ℕ} → v < terms → (e : Expr) × Admits F s r (ending v ∷ []) n e
+  read_admits_end end = admits (also end none)
 
   -- and one that takes neither.
-  pub given_admits_none : (e : Expr) × Admits F s r [] n e
-  given_admits_none = admits none
+  pub read_admits_none : (e : Expr) × Admits F s r [] n e
+  read_admits_none = admits none

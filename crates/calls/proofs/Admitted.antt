@@ -8,8 +8,7 @@ use Rattle.meaning.specs.Expression.{Expr}
 use Rattle.meaning.proofs.Postfix.{one_expression}
 use Rattle.records.specs.declared.Refusal.{Refusal}
 use Rattle.records.specs.declared.Reason.TheVariants.{QueryTerm}
-use Rattle.records.specs.declared.site.SiteAnswer.TheVariants as site
-use Rattle.records.specs.declared.rule.RuleAnswer.TheVariants as rule
+use Rattle.std.specs.Prelude.{Ok, Err}
 use Rattle.records.specs.Sites.{Checked}
 use Rattle.records.specs.Rules.{RuleChecked, refusal}
 use Rattle.records.proofs.Sites.{checked_unique}
@@ -30,10 +29,10 @@ fine_amiss (also h f) (later k a) = fine_amiss f a
 fine_amiss none x = elim x [ ]
 
 -- a site that is refused is not read, nor is a rule
-site_apart : {s : List ℕ} {n : ℕ} {x : Refusal} → Checked s (site.Site n) → Checked s (site.Refused x) → ⊥
+site_apart : {s : List ℕ} {n : ℕ} {x : Refusal} → Checked s (Ok n) → Checked s (Err x) → ⊥
 site_apart p q = let e = checked_unique p q in let z : ◌≡◌ {A = ℕ} 0 1 = cc in omega arith
 
-rule_apart : {r : List ℕ} {n : ℕ} {x : Refusal} → RuleChecked r (rule.Rule n) → RuleChecked r (rule.Refused x) → ⊥
+rule_apart : {r : List ℕ} {n : ℕ} {x : Refusal} → RuleChecked r (Ok n) → RuleChecked r (Err x) → ⊥
 rule_apart p q = let e = reads_unique p q in let z : ◌≡◌ {A = ℕ} 0 1 = cc in omega arith
 
 module _ {F : Type 0} {s r : List ℕ} {qs : List AskedOf} where

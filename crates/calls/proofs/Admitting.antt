@@ -1,5 +1,4 @@
--- How `admit` comes to its verdict: each answer that was read goes on, and the first refusal goes out.
--- The laws take what its calls promise, in plain terms.
+-- How `admit` comes to its answer: what was read goes on, and the first refusal goes out.
 use Prim.Native.Nat.{ℕ, ◌<◌, ◌≤◌}
 use mathlib.Core.Path.{◌≡◌, subst}
 use mathlib.Core.Logic.{◌⊎◌, inl, inr, ⊎_elim}
@@ -7,45 +6,31 @@ use mathlib.Core.List.{List}
 use native.Mathlib.Omega.{arith}
 use native.Mathlib.Decide.{dec_lt}
 use borrow.Author.Tests.{lt-ltb, le-ltb}
+use Rattle.std.specs.Prelude.{Result, Ok, Err}
 use Rattle.meaning.specs.Limits.{terms}
 use Rattle.records.specs.declared.Refusal.{Refusal}
 use Rattle.records.specs.declared.Reason.TheVariants.{QueryTerm}
-use Rattle.records.specs.declared.rule.RuleAnswer.TheVariants.{Rule}
-use Rattle.records.specs.declared.rule.RuleRead.{RuleRead}
-use Rattle.records.specs.declared.query.QueryAnswer.TheVariants as query
-use Rattle.records.specs.Rules.{RuleChecked, starts_of, Front, CheckedRule, refusal}
+use Rattle.records.specs.Rules.{refusal}
 use Rattle.records.specs.Queries.{query_term}
-use Rattle.calls.specs.declared.admit.Verdict.TheVariants.{Ready, Refused}
-use Rattle.calls.specs.declared.admit.Query.{Query}
-use Rattle.calls.specs.declared.admit.Admission.{Admission}
-use Rattle.calls.specs.Inner.{Given, TurnedAway, SoundQuery, Admitted}
+use Rattle.calls.specs.declared.query.Query.{Query}
+use Rattle.calls.specs.Inner.{TurnedAway, SoundQuery, Admitted}
 
--- What is turned away, with the refusal that was found, is never ready.
-pub turned : {s r : List ℕ} {z v : ℕ} {a : Admission} {x y : Refusal} → a.verdict ≡ Refused x → x ≡ y →
-    TurnedAway s r z v y → Admitted s r z v a
-turned {s} {r} {z} {v} {a} {x} {y} out found away = record {
+-- What is turned away is never ready.
+pub turned : {s r : List ℕ} {z v : ℕ} {a : Result Query Refusal} {x : Refusal} → a ≡ Err x → TurnedAway s r z v x → Admitted s r z v a
+turned {s} {r} {z} {v} {a} {x} out away = record {
   ready = λ q e. let never : ◌≡◌ {A = ℕ} 0 1 = cc in absurd (omega arith);
-  refused = λ w e. let same : y ≡ w = cc in subst (λ (u : Refusal). TurnedAway s r z v u) same away;
+  refused = λ y e. let same : x ≡ y = cc in subst (λ (u : Refusal). TurnedAway s r z v u) same away;
 }
 
--- What is ready was read, and is never turned away.
-pub ready : {s r : List ℕ} {z v : ℕ} {a : Admission} {q : Query} → a.verdict ≡ Ready q →
-    Given s r q.triples q.count a.starts a.links → SoundQuery z v q → Admitted s r z v a
-ready {s} {r} {z} {v} {a} {q} out given sound = record {
-  ready = λ p e.
-      let same : q ≡ p = cc in
-      subst (λ (u : Query). Given s r u.triples u.count a.starts a.links × SoundQuery z v u) same (given, sound);
+-- What is ready is never turned away.
+pub ready : {s r : List ℕ} {z v : ℕ} {q : Query} → SoundQuery s r z v q → Admitted s r z v (Ok q)
+ready {s} {r} {z} {v} {q} sound = record {
+  ready = λ p e. let same : q ≡ p = cc in subst (λ (u : Query). SoundQuery s r z v u) same sound;
   refused = λ x e. let never : ◌≡◌ {A = ℕ} 0 1 = cc in absurd (omega arith);
 }
 
--- A rule that is read comes with the places of its records.
-pub rule_read : {r : List ℕ} {x : RuleRead} {c : ℕ} → CheckedRule r x → x.answer ≡ Rule c →
-    RuleChecked r (Rule c) × Front (starts_of r) x.starts
-rule_read checked e = (rw e at checked.answer, rw e at checked.starts)
-
 -- a number is a term and read, or no term and refused
-term_told : (t place : ℕ) →
-    ((query_term t place ≡ query.Term t) × (t < terms)) ⊎ ((query_term t place ≡ query.Refused (refusal QueryTerm place)) × (terms ≤ t))
+term_told : (t place : ℕ) → ((query_term t place ≡ Ok t) × (t < terms)) ⊎ ((query_term t place ≡ Err (refusal QueryTerm place)) × (terms ≤ t))
 unfolding query_term
 term_told t place = elim (dec_lt t terms) [
   | yes h ↦ inl (simp (lt-ltb _ _ h), h)
@@ -53,12 +38,12 @@ term_told t place = elim (dec_lt t terms) [
 ]
 
 -- A number that is read as a query's term is that term,
-pub term_read : (t place : ℕ) {u : ℕ} → query_term t place ≡ query.Term u → (u ≡ t) × (t < terms)
+pub term_read : (t place : ℕ) {u : ℕ} → Ok u ≡ query_term t place → (u ≡ t) × (t < terms)
 term_read t place e =
     ⊎_elim (λ w. (cc, w.1)) (λ w. let never : ◌≡◌ {A = ℕ} 0 1 = cc in absurd (omega arith)) (term_told t place)
 
 -- and one that is refused is no term.
-pub term_refused : (t place : ℕ) {x : Refusal} → query_term t place ≡ query.Refused x →
+pub term_refused : (t place : ℕ) {x : Refusal} → Err x ≡ query_term t place →
     (x ≡ refusal QueryTerm place) × (terms ≤ t)
 term_refused t place e =
     ⊎_elim (λ w. let never : ◌≡◌ {A = ℕ} 0 1 = cc in absurd (omega arith)) (λ w. (cc, w.1)) (term_told t place)

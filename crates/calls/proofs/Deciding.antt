@@ -1,13 +1,14 @@
 -- How a decision comes to its answer: what the number at the start tells of the pair, the path written by the numbers, and the
 -- tables once both are filled make each case of the promise. The laws hold for either form.
 use Prim.Native.Nat.{ℕ, ◌+◌, ◌*◌, ◌-◌, ◌<◌, ◌≤◌}
-use mathlib.Core.Path.{◌≡◌, refl, subst, subst₂}
+use mathlib.Core.Path.{◌≡◌, refl, subst}
 use mathlib.Core.List.{List, [], ◌∷◌, ◌++◌}
 use mathlib.Core.Bool.{true, false}
 use native.Mathlib.Omega.{arith}
 use lib.ListN.{length}
 use lib.Dec.{eqb, ltb}
 use borrow.Author.Tests.{eqb-true, eqb-false, ltb-true, ltb-false}
+use Rattle.std.specs.Prelude.{Result, Ok, Err}
 use Rattle.meaning.specs.Limits.{terms, records, none}
 use Rattle.meaning.specs.Site.{Site}
 use Rattle.meaning.specs.Expression.{Expr, Expression, whole}
@@ -20,21 +21,21 @@ use Rattle.records.specs.declared.Reason.TheVariants.{TableLength, Room}
 use Rattle.records.specs.Sites.{site_of}
 use Rattle.records.specs.Rules.{records_of, refusal}
 use Rattle.records.proofs.Tests.{by_test}
-use Rattle.fewest.specs.declared.links.Links.{Links}
+use Rattle.fewest.specs.Frame.{Links}
 use Rattle.fewest.specs.Offer.{view}
 use Rattle.fewest.specs.Pairs.{pairs}
 use Rattle.fewest.specs.Sweep.{sum}
 use Rattle.asked.specs.Mark.{marks}
 use Rattle.asked.specs.Seek.{Bits, MarkedOver}
-use Rattle.calls.specs.declared.admit.Query.{Query}
-use Rattle.calls.specs.declared.Decision.{Decision}
-use Rattle.calls.specs.declared.Decision.TheVariants as decision
+use Rattle.calls.specs.declared.Answer.{Answer}
+use Rattle.calls.specs.declared.query.Query.{Query}
 use Rattle.calls.specs.Admission.{starting, ending, by_length, Admits}
 use Rattle.calls.specs.Promise.{Form, length_in, Fits, RoomFits, Filled, Decided, refused, no, yes, no_room}
-use Rattle.calls.specs.Inner.{Given, TurnedAway, SoundQuery, Numbered, Evaluated, Displayed, verdict}
-use Rattle.calls.specs.Written.{StepsOf, Walkable}
-use Rattle.calls.proofs.Admits.{turned_refuses, given_expression, given_admits}
-use Rattle.calls.proofs.Evaluation.{lent_as, filled_as, numbered_known, numbered_steps, evaluated_figure, evaluated_bits, evaluated_filled}
+use Rattle.calls.specs.Given.{Given}
+use Rattle.calls.specs.Inner.{TurnedAway, SoundQuery, Numbered, Evaluated, Displayed, lent_as, verdict}
+use Rattle.calls.specs.Written.{StepsOf, Walkable, Roomy}
+use Rattle.calls.proofs.Admits.{turned_refuses, read_expression, read_admits}
+use Rattle.calls.proofs.Evaluation.{filled_as, numbered_known, numbered_steps, evaluated_figure, evaluated_bits, evaluated_filled}
 
 -- the fewest steps of a way through the rule to the query's end are the fewest of a conforming path
 fewest_conforms : (s : Site) (e : Expr) (z v : ℕ) {k : ℕ} → Fewest (Way s (end v) (entered e whole z)) k → Fewest (λ q. Conforms s e z q v) k
@@ -54,6 +55,10 @@ pub none_before : (ends room : List ℕ) → length ends ≡ 0 → ends ++ room 
 none_before [] room none = refl
 none_before (x ∷ ends) room none = absurd (omega arith)
 
+-- A room that holds some steps holds fewer.
+pub roomy_less : {f : Form} {m n : ℕ} {room : List ℕ} → Roomy f m room → n ≤ m → Roomy f n room
+roomy_less roomy less = record { numbers = roomy.numbers; long = roomy.long; enough = omega (arith, roomy.enough) }
+
 -- what the number at the start tells
 module _ {s r : List ℕ} {n c : ℕ} {starts : List ℕ} {L : Links} (given : Given s r n c starts L) {g : Goal} {T : List ℕ}
     (S : Numbered s n r L.up L.role L.first g T) {z k : ℕ} (start : z < terms) (steps : k ≡ view T (c - 1) z) where
@@ -62,20 +67,20 @@ module _ {s r : List ℕ} {n c : ℕ} {starts : List ℕ} {L : Links} (given : G
 
   -- Where the start has a number, a path of so many steps can be walked.
   pub numbered_walkable : k < none → Walkable (records_of r) L (site_of s n) g T z k
-  numbered_walkable some = let (e, x) = given_expression given in record { rule = e; steps = steps_of x; some = some }
+  numbered_walkable some = let (e, x) = read_expression given.read in record { rule = e; steps = steps_of x; some = some }
 
 module _ {s r : List ℕ} {n c : ℕ} {starts : List ℕ} {L : Links} (given : Given s r n c starts L) {z v : ℕ} {asked numbers ends : List ℕ}
     (E : Evaluated s n r L.up L.role L.first (end v) z 0 asked numbers ends) (start : z < terms) where
   -- what was marked can be counted
   pub finished_bits : Bits asked
-  finished_bits = let (e, x) = given_expression given in (evaluated_bits given x E start).0
+  finished_bits = let (e, x) = read_expression given.read in (evaluated_bits given x E start).0
 
   -- The answers, for a table of numbers and a room that are lent in this form:
   module _ (f : Form) (room : List ℕ) {a b : List ℕ} (fit : Fits f a b) (fits : RoomFits f room) (stop : v < terms)
       (long : length numbers ≡ records * terms + records * terms) where
     -- the call answers for the rule's expression,
     admits : (e : Expr) × Admits (Fits f a b × RoomFits f room) s r (starting z ∷ (ending v ∷ [])) n e
-    admits = let both : Fits f a b × RoomFits f room = (fit, fits) in given_admits both given start stop
+    admits = let both : Fits f a b × RoomFits f room = (fit, fits) in read_admits both given.read start stop
 
     -- for which the tables are filled,
     filled : {e : Expr} → Expression (records_of r) e → Filled f (site_of s n) e z (end v) asked (lent_as f numbers)
@@ -86,11 +91,11 @@ module _ {s r : List ℕ} {n c : ℕ} {starts : List ℕ} {L : Links} (given : G
       fewest : {e : Expr} → Expression (records_of r) e → StepsOf (records_of r) L (site_of s n) (end v) (pairs numbers) z k e
       fewest = steps_of given E.settled start shown.steps
 
-      abbrev Left : Decision → Type 0
+      abbrev Left : Result Answer Refusal → Type 0
       Left = Decided f s r z v a b room asked (lent_as f numbers) room'
 
       -- Where the start has no number, the rule does not relate the pair.
-      left_no : k ≡ none → Left (decision.Answer (record { yes = false; figure = sum asked; steps = 0 }))
+      left_no : k ≡ none → Left (Ok (record { yes = false; figure = sum asked; steps = 0 }))
       left_no same =
           let (e, p) = admits in
           let x = p.expression in
@@ -98,19 +103,19 @@ module _ {s r : List ℕ} {n c : ℕ} {starts : List ℕ} {L : Links} (given : G
           (λ h. let some = (fewest_related (site_of s n) e z v (fewest x).fewest).1 h in omega arith) (shown.unrelated same)
 
       -- Where it has one that the room does not hold, the room is kept.
-      left_no_room : k < none → most < k → length room < length_in f (3 * k) → Left (decision.Refused (refusal Room k))
+      left_no_room : k < none → most < k → length room < length_in f (3 * k) → Left (Err (refusal Room k))
       left_no_room some over short =
           let (e, p) = admits in
           let x = p.expression in
           no_room p (filled x) (fewest_conforms (site_of s n) e z v (fewest x).fewest) some short (shown.too_long over)
 
       -- Else the path is written.
-      left_yes : k < none → k ≤ most → Left (decision.Answer (record { yes = true; figure = sum asked; steps = k }))
+      left_yes : k < none → k ≤ most → Left (Ok (record { yes = true; figure = sum asked; steps = k }))
       left_yes some held =
           let (e, p) = admits in
           let x = p.expression in
           let path = shown.written some held in
-          subst (λ (i : ℕ). Left (decision.Answer (record { yes = true; figure = sum asked; steps = i }))) path.long
+          subst (λ (i : ℕ). Left (Ok (record { yes = true; figure = sum asked; steps = i }))) path.long
           (yes p (filled x) (evaluated_figure given x E start) (shown_conforms (site_of s n) e z v (path.shown e (fewest x))) path.fits path.fills)
 
       -- So the decision by the steps and the figure is the one that is due.
@@ -127,16 +132,16 @@ module _ {s r : List ℕ} {n c : ℕ} {starts : List ℕ} {L : Links} (given : G
 module _ (f : Form) {s r : List ℕ} {z v : ℕ} {asked numbers room : List ℕ} where
   -- A length that is wrong is refused;
   pub decided_short : (Fits f asked numbers × RoomFits f room → ⊥) →
-      Decided f s r z v asked numbers room asked numbers room (decision.Refused (refusal TableLength 0))
+      Decided f s r z v asked numbers room asked numbers room (Err (refusal TableLength 0))
   decided_short wrong = refused (by_length wrong) refl refl refl
 
   -- what is turned away is refused;
   pub decided_turned : {x : Refusal} → Fits f asked numbers × RoomFits f room → TurnedAway s r z v x →
-      Decided f s r z v asked numbers room asked numbers room (decision.Refused x)
+      Decided f s r z v asked numbers room asked numbers room (Err x)
   decided_turned fits away = refused (turned_refuses fits away) refl refl refl
 
   -- and the pair that was admitted is the pair asked for.
-  pub decided_query : {asked' numbers' room' : List ℕ} {d : Decision} (q : Query) → SoundQuery z v q →
-      Decided f s r q.start q.end asked numbers room asked' numbers' room' d → Decided f s r z v asked numbers room asked' numbers' room' d
-  decided_query {asked' = asked'} {numbers' = numbers'} {room' = room'} {d = d} q sound =
-      subst₂ (λ (t u : ℕ). Decided f s r t u asked numbers room asked' numbers' room' d) sound.from sound.to
+  pub decided_query : {asked' numbers' room' : List ℕ} {d : Result Answer Refusal} {q : Query} → SoundQuery s r z v q →
+      Decided f q.site.bytes.now q.rule.now q.start q.end asked numbers room asked' numbers' room' d →
+      Decided f s r z v asked numbers room asked' numbers' room' d
+  decided_query sound decided = rw (sound.site, sound.rule, sound.from, sound.to) at decided

@@ -13,9 +13,8 @@ use Rattle.meaning.specs.Fewest.{Goal, entered, Way, Fewest, Numbers}
 use Rattle.meaning.specs.Question.{Figure, Count}
 use Rattle.records.specs.Sites.{site_of}
 use Rattle.records.specs.Rules.{records_of}
-use Rattle.fewest.specs.declared.links.Links.{Links}
+use Rattle.fewest.specs.Frame.{Links}
 use Rattle.fewest.specs.Offer.{view}
-use Rattle.fewest.specs.Pairs.{pairs}
 use Rattle.fewest.specs.Sweep.{sum}
 use Rattle.fewest.proofs.Bridge.{settled_numbers}
 use Rattle.asked.specs.Mark.{marks}
@@ -23,16 +22,12 @@ use Rattle.asked.specs.Seek.{Bits}
 use Rattle.asked.proofs.Bridge.{marked_questions, marked_figure, marked_ends, marked_ends_count, last_record}
 use Rattle.asked.proofs.Fair.{Fair, begun_fair, marks_on_fair}
 use Rattle.path.specs.Walking.{Known}
-use Rattle.calls.specs.Inner.{Given, Numbered, Evaluated}
+use Rattle.calls.specs.Given.{Given}
+use Rattle.calls.specs.Inner.{Numbered, Evaluated, lent_as}
 use Rattle.calls.specs.Tables.{TermTable}
 use Rattle.calls.specs.Promise.{Form, as_words, as_bytes, Filled}
 use Rattle.calls.proofs.Fronts.{numbers_long}
-use Rattle.calls.proofs.Admits.{given_ready, given_linked, given_size, given_last, given_counted}
-
--- a table of byte pairs as it is lent: its numbers, or its bytes
-abbrev pub lent_as : Form → List ℕ → List ℕ
-lent_as as_words b = pairs b
-lent_as as_bytes b = b
+use Rattle.calls.proofs.Admits.{given_ready, given_linked, read_size, read_last, read_counted}
 
 -- Tables filled in byte pairs are filled in either form.
 pub filled_as : (f : Form) {s : Site} {e : Expr} {z : ℕ} {g : Goal} {asked numbers : List ℕ} → Filled as_bytes s e z g asked numbers →
@@ -62,7 +57,7 @@ module _ {s r : List ℕ} {n c : ℕ} {starts : List ℕ} {L : Links} (given : G
     pub numbered_steps : {z : ℕ} → z < terms → Fewest (Way (site_of s n) g (entered e whole z)) (view T (c - 1) z)
     unfolding Numbers
     numbered_steps {z} start =
-        let row : c - 1 ≡ last e = omega (arith, given_last given x) in
+        let row : c - 1 ≡ last e = omega (arith, read_last given.read x) in
         rw row (settled.0 e whole refl z start)
 
   module _ {g : Goal} {z k : ℕ} {asked numbers ends : List ℕ} (E : Evaluated s n r L.up L.role L.first g z k asked numbers ends)
@@ -90,7 +85,7 @@ module _ {s r : List ℕ} {n c : ℕ} {starts : List ℕ} {L : Links} (given : G
       fewest = record {
         long = numbers_long as_bytes (records * terms) numbers long;
         numbers = (settled E.settled).0;
-        unused = λ q t h b d. (settled E.settled).1 q t (omega (arith, given_counted given, given_size given x)) b d;
+        unused = λ q t h b d. (settled E.settled).1 q t (omega (arith, read_counted given.read, read_size given.read x)) b d;
       };
     }
 

@@ -3,7 +3,7 @@
 use Prim.Native.Nat.{ℕ, ◌*◌}
 use mathlib.Core.Path.{◌≡◌}
 use mathlib.Core.Logic.{◌↔◌}
-use mathlib.Core.Bool.{Bool}
+use mathlib.Core.Bool.{Bool, ◌&&◌}
 use mathlib.Core.List.{List}
 use native.Mathlib.Decide.{ℕ_discrete}
 use lib.ListN.{length}
@@ -13,11 +13,17 @@ use Rattle.meaning.specs.Limits.{terms, records}
 use Rattle.fewest.specs.Tells.{Tells, holds, fails}
 use Rattle.calls.specs.Promise.{Form, length_in, Fits}
 
--- Where the first two lengths are right, the third one tells.
-pub third_tells : {A B : Type 0} → A → B → (t w : ℕ) → Tells (A × B × (t ≡ w)) (eqb t w)
-third_tells a b t w = elim (ℕ_discrete t w) [
-  | yes h ↦ rw (eq-eqb _ _ h) (holds (a, b, h))
-  | no h ↦ rw (ne_eqb _ _ h) (fails (λ x. h x.2))
+-- Three lengths are compared, and one that differs says no.
+pub three_tell : (a e n l t w : ℕ) → Tells ((a ≡ e) × (n ≡ l) × (t ≡ w)) (eqb a e && eqb n l && eqb t w)
+three_tell a e n l t w = elim (ℕ_discrete a e) [
+  | yes f ↦ elim (ℕ_discrete n l) [
+    | yes g ↦ elim (ℕ_discrete t w) [
+      | yes h ↦ rw (eq-eqb _ _ f, eq-eqb _ _ g, eq-eqb _ _ h) (holds (f, g, h))
+      | no h ↦ rw (eq-eqb _ _ f, eq-eqb _ _ g, ne_eqb _ _ h) (fails (λ x. h x.2))
+    ]
+    | no g ↦ rw (eq-eqb _ _ f, ne_eqb _ _ g) (fails (λ x. g x.1))
+  ]
+  | no f ↦ rw (ne_eqb _ _ f) (fails (λ x. f x.0))
 ]
 
 -- The lengths that are compared are the tables', and the third is the one that the promise asks for.

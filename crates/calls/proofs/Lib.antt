@@ -7,6 +7,7 @@ pub mod Ceilings
 pub mod Admitting
 pub mod Admits
 pub mod Evaluation
+pub mod Tasks
 pub mod TermTables
 pub mod Standing
 pub mod Fitting

@@ -10,13 +10,14 @@ use Rattle.meaning.specs.Expression.{Expr, Expression}
 use Rattle.meaning.specs.Fewest.{Goal}
 use Rattle.records.specs.Sites.{site_of}
 use Rattle.records.specs.Rules.{records_of}
-use Rattle.fewest.specs.declared.links.Links.{Links}
+use Rattle.fewest.specs.Frame.{Links}
 use Rattle.fewest.specs.Pairs.{pairs}
 use Rattle.fewest.specs.Table.{Full}
 use Rattle.fewest.proofs.Bridge.{settled_numbers}
 use Rattle.calls.specs.Tables.{NumberTable}
-use Rattle.calls.specs.Inner.{Given, Numbered}
-use Rattle.calls.proofs.Admits.{given_counted, given_size, given_linked, given_ready}
+use Rattle.calls.specs.Given.{Given}
+use Rattle.calls.specs.Inner.{Numbered}
+use Rattle.calls.proofs.Admits.{read_counted, read_size, given_linked, given_ready}
 
 -- two bytes are one number
 pairs_half : (n : ℕ) (b : List ℕ) → length b ≡ n + n → length (pairs b) ≡ n
@@ -37,5 +38,5 @@ settled_table {r = r} {L = L} given x b full settled =
     record {
       long = pairs_half (records * terms) b full;
       numbers = numbered;
-      unused = λ q t past. unused q t (omega (arith, given_counted given, given_size given x));
+      unused = λ q t past. unused q t (omega (arith, read_counted given.read, read_size given.read x));
     }

@@ -6,6 +6,7 @@ use mathlib.Core.Bool.{false}
 use mathlib.Core.List.{List, ◌++◌}
 use native.Mathlib.Omega.{arith}
 use lib.ListN.{length, drop}
+use Rattle.std.specs.Prelude.{Result, Ok, Err}
 use Rattle.meaning.specs.Limits.{terms, records, none}
 use Rattle.meaning.specs.Site.{Site, Mentioned}
 use Rattle.meaning.specs.Expression.{Expr}
@@ -18,17 +19,12 @@ use Rattle.meaning.proofs.Conforming.{related_iff_path}
 use Rattle.meaning.proofs.Counting.{count_unique}
 use Rattle.meaning.proofs.Greedy.{shown_unique, shown_fewest}
 use Rattle.meaning.proofs.Ways.{fewest_unique, fewest_some}
+use Rattle.records.specs.declared.Refusal.{Refusal}
 use Rattle.records.specs.declared.Reason.TheVariants.{Room}
 use Rattle.records.specs.Sites.{site_of}
 use Rattle.records.specs.Rules.{refusal}
-use Rattle.calls.specs.declared.Decision.{Decision}
-use Rattle.calls.specs.declared.Decision.TheVariants as decision
-use Rattle.calls.specs.declared.EndList.{EndList}
-use Rattle.calls.specs.declared.EndList.TheVariants as ends
-use Rattle.calls.specs.declared.StartList.{StartList}
-use Rattle.calls.specs.declared.StartList.TheVariants as starts
-use Rattle.calls.specs.declared.Limit.{Limit}
-use Rattle.calls.specs.declared.Limit.TheVariants as limit
+use Rattle.calls.specs.declared.Answer.{Answer}
+use Rattle.calls.specs.declared.Found.{Found}
 use Rattle.calls.specs.Admission.{AskedOf, Admits}
 use Rattle.calls.specs.Tables.{QuestionTable, NumberTable, TermTable, written}
 use Rattle.calls.specs.Promise.{Form, numbers_of, length_in, lent, Filled, Decided, refused, no, yes, no_room, Ended, found, Started, Limited, at}
@@ -93,9 +89,9 @@ module _ {F : Type 0} {s r : List ℕ} {qs : List AskedOf} {n m : ℕ} {e g : Ex
 module _ {f : Form} {s r a n m a₁ n₁ m₁ a₂ n₂ m₂ : List ℕ} where
   module _ {z v : ℕ} where
     -- Deciding has one result, and leaves one content in both tables and the room.
-    pub decide_unique : {x y : Decision} → Decided f s r z v a n m a₁ n₁ m₁ x → Decided f s r z v a n m a₂ n₂ m₂ y →
+    pub decide_unique : {x y : Result Answer Refusal} → Decided f s r z v a n m a₁ n₁ m₁ x → Decided f s r z v a n m a₂ n₂ m₂ y →
         Slice f n₁ → Slice f n₂ → (x ≡ y) × (a₁ ≡ a₂) × (n₁ ≡ n₂) × (m₁ ≡ m₂)
-    decide_unique (refused p a n m) (refused q b o l) i j = (ap decision.Refused (refuses_unique p q), a ∙ sym b, n ∙ sym o, m ∙ sym l)
+    decide_unique (refused p a n m) (refused q b o l) i j = (ap Err (refuses_unique p q), a ∙ sym b, n ∙ sym o, m ∙ sym l)
     decide_unique (refused p a n m) (no q t d never same) i j = absurd (refuses_admits p q)
     decide_unique (refused p a n m) (yes q t d shown room same) i j = absurd (refuses_admits p q)
     decide_unique (refused p a n m) (no_room q t fewest some room same) i j = absurd (refuses_admits p q)
@@ -103,7 +99,7 @@ module _ {f : Form} {s r a n m a₁ n₁ m₁ a₂ n₂ m₂ : List ℕ} where
     decide_unique (no p t c never same) (no q t' c' never' same') i j =
         let (asked, numbers) = same_filled p q f i j t t' in
         let figure = same_count p q (λ S e. Asks S e z) c c' in
-        (ap (λ k. decision.Answer (record { yes = false; figure = k; steps = 0 })) figure, asked, numbers, same ∙ sym same')
+        (ap (λ k. Ok (record { yes = false; figure = k; steps = 0 })) figure, asked, numbers, same ∙ sym same')
     decide_unique (no p t c never same) (yes q t' c' shown room same') i j = absurd (not_shown p q z v never shown)
     decide_unique (no p t c never same) (no_room q t' fewest some room same') i j = absurd (not_some p q z v never fewest some)
     decide_unique (yes p t c shown room same) (refused q b o l) i j = absurd (refuses_admits q p)
@@ -119,12 +115,12 @@ module _ {f : Form} {s r a n m a₁ n₁ m₁ a₂ n₂ m₂ : List ℕ} where
     decide_unique (no_room p t fewest some short same) (yes q t' c' shown room same') i j = absurd (room_holds q p f z v shown fewest room short)
     decide_unique (no_room p t fewest some short same) (no_room q t' fewest' some' short' same') i j =
         let (asked, numbers) = same_filled p q f i j t t' in
-        (ap (λ k. decision.Refused (refusal Room k)) (same_fewest p q z v fewest fewest'), asked, numbers, same ∙ sym same')
+        (ap (λ k. Err (refusal Room k)) (same_fewest p q z v fewest fewest'), asked, numbers, same ∙ sym same')
 
   -- Listing the ends has one result, and leaves one content in the three tables.
-  pub ends_unique : {z : ℕ} {x y : EndList} → Ended f s r z a n m a₁ n₁ m₁ x → Ended f s r z a n m a₂ n₂ m₂ y →
+  pub ends_unique : {z : ℕ} {x y : Result Found Refusal} → Ended f s r z a n m a₁ n₁ m₁ x → Ended f s r z a n m a₂ n₂ m₂ y →
       Slice f n₁ → Slice f n₂ → (x ≡ y) × (a₁ ≡ a₂) × (n₁ ≡ n₂) × (m₁ ≡ m₂)
-  ends_unique (refused p a n m) (refused q b o l) i j = (ap ends.Refused (refuses_unique p q), a ∙ sym b, n ∙ sym o, m ∙ sym l)
+  ends_unique (refused p a n m) (refused q b o l) i j = (ap Err (refuses_unique p q), a ∙ sym b, n ∙ sym o, m ∙ sym l)
   ends_unique (refused p a n m) (found q filled third k c) i j = absurd (refuses_admits p q)
   ends_unique (found p filled third k c) (refused q b o l) i j = absurd (refuses_admits q p)
   ends_unique {z} (found p filled third k c) (found q filled' third' k' c') i j =
@@ -138,21 +134,21 @@ module _ {f : Form} {s r a n m a₁ n₁ m₁ a₂ n₂ m₂ : List ℕ} where
       )
 
   -- Listing the starts has one result, and leaves one content in the three tables.
-  pub starts_unique : {v : ℕ} {x y : StartList} → Started f s r v a n m a₁ n₁ m₁ x → Started f s r v a n m a₂ n₂ m₂ y →
+  pub starts_unique : {v : ℕ} {x y : Result ℕ Refusal} → Started f s r v a n m a₁ n₁ m₁ x → Started f s r v a n m a₂ n₂ m₂ y →
       Slice f n₁ → Slice f n₂ → (x ≡ y) × (a₁ ≡ a₂) × (n₁ ≡ n₂) × (m₁ ≡ m₂)
-  starts_unique (refused p a n m) (refused q b o l) i j = (ap starts.Refused (refuses_unique p q), a ∙ sym b, n ∙ sym o, m ∙ sym l)
+  starts_unique (refused p a n m) (refused q b o l) i j = (ap Err (refuses_unique p q), a ∙ sym b, n ∙ sym o, m ∙ sym l)
   starts_unique (refused p a n m) (found q clear long numbers third k) i j = absurd (refuses_admits p q)
   starts_unique (found p clear long numbers third k) (refused q b o l) i j = absurd (refuses_admits q p)
   starts_unique {v} (found p clear long numbers third k) (found q clear' long' numbers' third' k') i j = (
-    ap starts.Found (same_count p q (λ S e t. (t < terms) × Rel S e t v) k k'),
+    ap Ok (same_count p q (λ S e t. (t < terms) × Rel S e t v) k k'),
     clear ∙ sym clear',
     same_numbers p q f i j long long' numbers numbers',
     same_terms p q (λ S e t. Rel S e t v) third third',
   )
 
 -- The ceiling is one.
-pub ceiling_unique : {s r : List ℕ} {x y : Limit} → Limited s r x → Limited s r y → x ≡ y
-ceiling_unique (refused p) (refused q) = ap limit.Refused (refuses_unique p q)
+pub ceiling_unique : {s r : List ℕ} {x y : Result ℕ Refusal} → Limited s r x → Limited s r y → x ≡ y
+ceiling_unique (refused p) (refused q) = ap Err (refuses_unique p q)
 ceiling_unique (refused p) (at q d) = absurd (refuses_admits p q)
 ceiling_unique (at p d) (refused q) = absurd (refuses_admits q p)
 ceiling_unique (at p d) (at q d') =

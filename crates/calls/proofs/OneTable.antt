@@ -16,11 +16,11 @@ use Rattle.meaning.specs.Fewest.{Goal, Numbers}
 use Rattle.meaning.specs.Question.{Tells}
 use Rattle.meaning.proofs.Names.{node_named}
 use Rattle.meaning.proofs.Ways.{fewest_unique}
-use Rattle.records.specs.Bytes.{base}
 use Rattle.fewest.specs.Pairs.{pairs}
 use Rattle.fewest.specs.Offer.{view}
 use Rattle.calls.specs.Tables.{QuestionTable, NumberTable, TermTable}
 use Rattle.calls.specs.Promise.{Form, as_words, as_bytes, numbers_of, length_in, spread}
+pub use Rattle.calls.specs.Written.{Bytes, Slice}
 
 -- each number below so many rows is the place of a row and a place in it
 row_place : (m c : ℕ) {i : ℕ} → i < m * c → (r t : ℕ) × (r < m) × (t < c) × (r * c + t ≡ i)
@@ -66,10 +66,6 @@ numbers_unique {e = e} {b = b} {c = c} numbered x y = view_unique x.long y.long 
       | no h ↦ x.unused r t (omega arith) row term ∙ sym (y.unused r t (omega arith) row term)
     ]
 
--- every entry is a byte
-abbrev pub Bytes : List ℕ → Type 0
-Bytes b = (i : ℕ) → get_or b i 0 < base
-
 -- bytes, an even number of them, are the numbers that they hold, spread out
 pub spread_pairs : (n : ℕ) (b : List ℕ) → length b ≡ n + n → Bytes b → spread (pairs b) ≡ b
 unfolding spread pairs
@@ -83,11 +79,6 @@ pub pairs_injective : (n : ℕ) {b c : List ℕ} → length b ≡ n + n → leng
     pairs b ≡ pairs c → b ≡ c
 pairs_injective n {b} {c} long as_long small as-small same =
     sym (spread_pairs n b long small) ∙ ap spread same ∙ spread_pairs n c as_long as-small
-
--- what every lent slice is: one of bytes has bytes
-abbrev pub Slice : Form → List ℕ → Type 0
-Slice as_words l = Unit
-Slice as_bytes l = Bytes l
 
 -- So a number table is determined in either form.
 pub lent_unique : (f : Form) {s : Site} {g : Goal} {e : Expr} {b c : List ℕ} → Slice f b → Slice f c → Numbered 0 e →

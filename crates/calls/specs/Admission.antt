@@ -1,12 +1,10 @@
 -- When a call refuses, in document 01's order ("Numbered refusals"): one definition, which every promise cites.
 -- 1; then the site record by record; then the rule record by record and 13; then 14, start before end. 15 comes last, in the promises.
-use Rattle.std.specs.Prelude.{ℕ, ◌<◌, ◌≤◌, List, [], ◌∷◌}
+use Rattle.std.specs.Prelude.{ℕ, ◌<◌, ◌≤◌, List, [], ◌∷◌, Ok, Err}
 use Rattle.meaning.specs.Limits.{terms}
 use Rattle.meaning.specs.Expression.{Expr, Expression}
 use Rattle.records.specs.declared.Refusal.{Refusal}
 use Rattle.records.specs.declared.Reason.TheVariants.{TableLength, QueryTerm}
-use Rattle.records.specs.declared.site.SiteAnswer.TheVariants as site
-use Rattle.records.specs.declared.rule.RuleAnswer.TheVariants as rule
 use Rattle.records.specs.Sites.{Checked}
 use Rattle.records.specs.Rules.{RuleChecked, records_of, refusal}
 
@@ -34,15 +32,15 @@ pub data Fine : List AskedOf → Type 0 where
 -- the call refuses so; `Fits` says that the lent tables have their lengths
 pub data Refuses (Fits : Type 0) (s r : List ℕ) (qs : List AskedOf) : Refusal → Type 0 where
   by_length : (Fits → ⊥) → Refuses Fits s r qs (refusal TableLength 0)
-  by_site : {x : Refusal} → Fits → Checked s (site.Refused x) → Refuses Fits s r qs x
-  by_rule : {n : ℕ} {x : Refusal} → Fits → Checked s (site.Site n) → RuleChecked r (rule.Refused x) → Refuses Fits s r qs x
-  by_query : {n c p : ℕ} → Fits → Checked s (site.Site n) → RuleChecked r (rule.Rule c) → Amiss qs p → Refuses Fits s r qs (refusal QueryTerm p)
+  by_site : {x : Refusal} → Fits → Checked s (Err x) → Refuses Fits s r qs x
+  by_rule : {n : ℕ} {x : Refusal} → Fits → Checked s (Ok n) → RuleChecked r (Err x) → Refuses Fits s r qs x
+  by_query : {n c p : ℕ} → Fits → Checked s (Ok n) → RuleChecked r (Ok c) → Amiss qs p → Refuses Fits s r qs (refusal QueryTerm p)
 
 -- the call answers: n triples, and the rule's records are the expression e
 pub record Admits (Fits : Type 0) (s r : List ℕ) (qs : List AskedOf) (n : ℕ) (e : Expr) : Type 0 where
   pub fits : Fits
   pub count : ℕ
-  pub site : Checked s (site.Site n)
-  pub rule : RuleChecked r (rule.Rule count)
+  pub site : Checked s (Ok n)
+  pub rule : RuleChecked r (Ok count)
   pub expression : Expression (records_of r) e
   pub query : Fine qs

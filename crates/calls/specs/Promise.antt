@@ -1,6 +1,6 @@
 -- What each call promises: its answer or refusal, and what each lent table and the room hold after it, for all inputs.
 -- One promise serves both forms of a call: numbers lent as such, or as pairs of bytes.
-use Rattle.std.specs.Prelude.{ℕ, ◌+◌, ◌*◌, ◌/◌, ◌%◌, ◌<◌, ◌≤◌, ◌≡◌, true, false, List, [], ◌∷◌, ◌++◌, length, drop, replicate}
+use Rattle.std.specs.Prelude.{ℕ, ◌+◌, ◌*◌, ◌/◌, ◌%◌, ◌<◌, ◌≤◌, ◌≡◌, true, false, List, [], ◌∷◌, ◌++◌, length, drop, replicate, Result, Ok, Err}
 use Rattle.meaning.specs.Limits.{terms, records, none}
 use Rattle.meaning.specs.Site.{Site, Mentioned}
 use Rattle.meaning.specs.Expression.{Expr, size}
@@ -15,14 +15,8 @@ use Rattle.records.specs.Sites.{site_of}
 use Rattle.records.specs.Rules.{refusal}
 use Rattle.records.specs.Bytes.{base}
 use Rattle.fewest.specs.Pairs.{pairs}
-use Rattle.calls.specs.declared.Decision.{Decision}
-use Rattle.calls.specs.declared.Decision.TheVariants as decision
-use Rattle.calls.specs.declared.EndList.{EndList}
-use Rattle.calls.specs.declared.EndList.TheVariants as ends
-use Rattle.calls.specs.declared.StartList.{StartList}
-use Rattle.calls.specs.declared.StartList.TheVariants as starts
-use Rattle.calls.specs.declared.Limit.{Limit}
-use Rattle.calls.specs.declared.Limit.TheVariants as limit
+use Rattle.calls.specs.declared.Answer.{Answer}
+use Rattle.calls.specs.declared.Found.{Found}
 use Rattle.calls.specs.Admission.{starting, ending, Refuses, Admits}
 use Rattle.calls.specs.Tables.{QuestionTable, NumberTable, TermTable, written}
 
@@ -70,46 +64,46 @@ pub record Filled (f : Form) (s : Site) (e : Expr) (z : ℕ) (g : Goal) (asked n
   pub fewest : NumberTable s g e (numbers_of f numbers)
 
 -- Deciding start → end. The tables and the room are given before and after.
-pub data Decided (f : Form) (s r : List ℕ) (z v : ℕ) (asked numbers room asked' numbers' room' : List ℕ) : Decision → Type 0 where
+pub data Decided (f : Form) (s r : List ℕ) (z v : ℕ) (asked numbers room asked' numbers' room' : List ℕ) : Result Answer Refusal → Type 0 where
   refused : {x : Refusal} → Refuses (Fits f asked numbers × RoomFits f room) s r (starting z ∷ (ending v ∷ [])) x →
       asked' ≡ asked → numbers' ≡ numbers → room' ≡ room →
-      Decided f s r z v asked numbers room asked' numbers' room' (decision.Refused x)
+      Decided f s r z v asked numbers room asked' numbers' room' (Err x)
   no : {n c : ℕ} {e : Expr} → Admits (Fits f asked numbers × RoomFits f room) s r (starting z ∷ (ending v ∷ [])) n e →
       Filled f (site_of s n) e z (end v) asked' numbers' → Figure (site_of s n) e z c →
       (Rel (site_of s n) e z v → ⊥) → room' ≡ room →
-      Decided f s r z v asked numbers room asked' numbers' room' (decision.Answer (record { yes = false; figure = c; steps = 0 }))
+      Decided f s r z v asked numbers room asked' numbers' room' (Ok (record { yes = false; figure = c; steps = 0 }))
   yes : {n c : ℕ} {e : Expr} {p : Path} → Admits (Fits f asked numbers × RoomFits f room) s r (starting z ∷ (ending v ∷ [])) n e →
       Filled f (site_of s n) e z (end v) asked' numbers' → Figure (site_of s n) e z c →
       Shown (λ q. Conforms (site_of s n) e z q v) p → length (lent f (written p)) ≤ length room →
       room' ≡ lent f (written p) ++ drop (length (lent f (written p))) room →
-      Decided f s r z v asked numbers room asked' numbers' room' (decision.Answer (record { yes = true; figure = c; steps = length p }))
+      Decided f s r z v asked numbers room asked' numbers' room' (Ok (record { yes = true; figure = c; steps = length p }))
   no_room : {n k : ℕ} {e : Expr} → Admits (Fits f asked numbers × RoomFits f room) s r (starting z ∷ (ending v ∷ [])) n e →
       Filled f (site_of s n) e z (end v) asked' numbers' →
       Fewest (λ q. Conforms (site_of s n) e z q v) k → k < none → length room < length_in f (3 * k) → room' ≡ room →
-      Decided f s r z v asked numbers room asked' numbers' room' (decision.Refused (refusal Room k))
+      Decided f s r z v asked numbers room asked' numbers' room' (Err (refusal Room k))
 
 -- Listing the ends of a start: the rule's own body may finish anywhere.
-pub data Ended (f : Form) (s r : List ℕ) (z : ℕ) (asked numbers third asked' numbers' third' : List ℕ) : EndList → Type 0 where
+pub data Ended (f : Form) (s r : List ℕ) (z : ℕ) (asked numbers third asked' numbers' third' : List ℕ) : Result Found Refusal → Type 0 where
   refused : {x : Refusal} → Refuses (Fits f asked numbers × (length third ≡ terms)) s r (starting z ∷ []) x →
       asked' ≡ asked → numbers' ≡ numbers → third' ≡ third →
-      Ended f s r z asked numbers third asked' numbers' third' (ends.Refused x)
+      Ended f s r z asked numbers third asked' numbers' third' (Err x)
   found : {n c k : ℕ} {e : Expr} → Admits (Fits f asked numbers × (length third ≡ terms)) s r (starting z ∷ []) n e →
       Filled f (site_of s n) e z anywhere asked' numbers' →
       TermTable (Ends (site_of s n) e z) third' → Count (Ends (site_of s n) e z) k → Figure (site_of s n) e z c →
-      Ended f s r z asked numbers third asked' numbers' third' (ends.Found (record { ends = k; figure = c }))
+      Ended f s r z asked numbers third asked' numbers' third' (Ok (record { ends = k; figure = c }))
 
 -- Listing the starts of an end: no question is asked, and the byte table becomes all 0.
-pub data Started (f : Form) (s r : List ℕ) (v : ℕ) (asked numbers third asked' numbers' third' : List ℕ) : StartList → Type 0 where
+pub data Started (f : Form) (s r : List ℕ) (v : ℕ) (asked numbers third asked' numbers' third' : List ℕ) : Result ℕ Refusal → Type 0 where
   refused : {x : Refusal} → Refuses (Fits f asked numbers × (length third ≡ terms)) s r (ending v ∷ []) x →
       asked' ≡ asked → numbers' ≡ numbers → third' ≡ third →
-      Started f s r v asked numbers third asked' numbers' third' (starts.Refused x)
+      Started f s r v asked numbers third asked' numbers' third' (Err x)
   found : {n k : ℕ} {e : Expr} → Admits (Fits f asked numbers × (length third ≡ terms)) s r (ending v ∷ []) n e →
       asked' ≡ replicate (records * terms) 0 →
       length numbers' ≡ length_in f (records * terms) → NumberTable (site_of s n) (end v) e (numbers_of f numbers') →
       TermTable (Starts (site_of s n) e v) third' → Count (λ t. (t < terms) × Starts (site_of s n) e v t) k →
-      Started f s r v asked numbers third asked' numbers' third' (starts.Found k)
+      Started f s r v asked numbers third asked' numbers' third' (Ok k)
 
 -- The ceiling of a site and a rule: records times one more than the different terms of the site.
-pub data Limited (s r : List ℕ) : Limit → Type 0 where
-  refused : {x : Refusal} → Refuses Unit s r [] x → Limited s r (limit.Refused x)
-  at : {n d : ℕ} {e : Expr} → Admits Unit s r [] n e → Count (Mentioned (site_of s n)) d → Limited s r (limit.At (size e * (d + 1)))
+pub data Limited (s r : List ℕ) : Result ℕ Refusal → Type 0 where
+  refused : {x : Refusal} → Refuses Unit s r [] x → Limited s r (Err x)
+  at : {n d : ℕ} {e : Expr} → Admits Unit s r [] n e → Count (Mentioned (site_of s n)) d → Limited s r (Ok (size e * (d + 1)))

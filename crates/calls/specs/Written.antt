@@ -1,6 +1,6 @@
 -- What the writers promise, in either form: the path shown fills the front of the room, and the rest keeps its contents
 -- (document 01, "Lent tables"). And what of a table of numbers is one row.
-use Rattle.std.specs.Prelude.{ℕ, ◌+◌, ◌*◌, ◌<◌, ◌≤◌, ◌≡◌, List, ◌++◌, length, take, drop, set}
+use Rattle.std.specs.Prelude.{ℕ, ◌+◌, ◌*◌, ◌<◌, ◌≤◌, ◌≡◌, List, ◌++◌, length, get_or, take, drop, set}
 use Rattle.meaning.specs.Limits.{terms, none}
 use Rattle.meaning.specs.Site.{Site}
 use Rattle.meaning.specs.Expression.{Rec, Expr, whole}
@@ -8,11 +8,16 @@ use Rattle.meaning.specs.Path.{Path}
 use Rattle.meaning.specs.Shown.{Shown}
 use Rattle.meaning.specs.Fewest.{Goal, entered, Way, Fewest}
 use Rattle.records.specs.Bytes.{base}
-use Rattle.fewest.specs.declared.links.Links.{Links}
+use Rattle.records.specs.Sites.{site_of}
+use Rattle.records.specs.Rules.{records_of}
+use Rattle.fewest.specs.declared.task.Task.{Task}
+use Rattle.fewest.specs.Frame.{Links}
+use Rattle.fewest.specs.Pairs.{pairs}
+use Rattle.fewest.specs.Work.{goal_of}
 use Rattle.path.specs.declared.Taken.{Taken}
 use Rattle.path.specs.Walking.{Known}
 use Rattle.calls.specs.Tables.{written}
-use Rattle.calls.specs.Promise.{Form, lent, length_in}
+use Rattle.calls.specs.Promise.{Form, as_words, as_bytes, numbers_of, lent, length_in}
 
 -- the front of a list becomes these, and the rest of it stays
 abbrev pub front : List ℕ → List ℕ → List ℕ
@@ -49,6 +54,27 @@ pub record Roomy (f : Form) (n : ℕ) (room : List ℕ) : Type 0 where
   pub long : length room ≡ length_in f numbers
   pub enough : 3 * n ≤ numbers
 
+-- it holds so many and no more
+pub record Holds (f : Form) (n : ℕ) (room : List ℕ) : Type 0 where
+  pub roomy : Roomy f n room
+  pub most : (i : ℕ) → n < i → length room < length_in f (3 * i)
+
+-- every entry is a byte
+abbrev pub Bytes : List ℕ → Type 0
+Bytes b = (i : ℕ) → get_or b i 0 < base
+
+-- what every lent slice is: one of bytes has bytes
+abbrev pub Slice : Form → List ℕ → Type 0
+Slice as_words l = Unit
+Slice as_bytes l = Bytes l
+
+-- step i of a path is put at its place of a room, in either form
+pub record StepPut (f : Form) (i : ℕ) (x : Taken) (l l' : List ℕ) : Type 0 where
+  pub stored : StepWritten i x (numbers_of f l) (numbers_of f l')
+  pub long : length l' ≡ length l
+  pub before : Slice f l
+  pub after : Slice f l'
+
 -- the path shown from z, of n steps, fills the front of the room
 pub record PathWritten (f : Form) (rs : List Rec) (L : Links) (s : Site) (g : Goal) (T : List ℕ) (z n : ℕ) (room room' : List ℕ) : Type 0 where
   pub path : Path
@@ -56,3 +82,12 @@ pub record PathWritten (f : Form) (rs : List Rec) (L : Links) (s : Site) (g : Go
   pub shown : (e : Expr) → StepsOf rs L s g T z n e → Shown (Way s g (entered e whole z)) path
   pub fits : length (lent f (written path)) ≤ length room
   pub fills : room' ≡ front (lent f (written path)) room
+
+-- both of a task, where these are the bytes of its number table
+abbrev pub WalkableFor : Task → List ℕ → (z n : ℕ) → Type 0
+WalkableFor t N z n =
+    Walkable (records_of t.rule.bytes.now) t.ahead.links.now (site_of t.site.bytes.now t.site.triples) (goal_of t.ahead.goal) (pairs N) z n
+
+abbrev pub WrittenFor : Form → Task → List ℕ → (z n : ℕ) → List ℕ → List ℕ → Type 0
+WrittenFor f t N z n room room' =
+    PathWritten f (records_of t.rule.bytes.now) t.ahead.links.now (site_of t.site.bytes.now t.site.triples) (goal_of t.ahead.goal) (pairs N) z n room room'

@@ -1,27 +1,26 @@
-// Deciding one pair on tables and a room of bytes: the lengths and the admission, the numbers, the path, the questions, then the
-// answer.
-ghost use Rattle.std.specs.Prelude.{◌<◌, ◌≡◌};
-ghost use Rattle.meaning.specs.Limits.{terms};
-ghost use Rattle.fewest.specs.Pairs.{pairs};
-ghost use Rattle.fewest.specs.Frame.{links};
+// Deciding one pair: the lengths and the admission, the numbers, the path, the questions, then the answer. The work is done on bytes,
+// and the room is lent as bytes or as numbers.
+ghost use Rattle.std.specs.Prelude.{◌≡◌};
 ghost use Rattle.fewest.specs.Sweep.{sum};
-ghost use Rattle.fewest.specs.Threads.{Threads};
-ghost use Rattle.fewest.specs.Work.{goal_of};
-ghost use Rattle.fewest.specs.Threads.{Threads};
+ghost use Rattle.fewest.specs.Tasks.{ThreadsOf};
 ghost use Rattle.asked.specs.Seek.{Bits};
-ghost use Rattle.calls.specs.Promise.{as_bytes, room_steps, Fits, RoomFits, Decided};
-ghost use Rattle.calls.specs.Inner.{Given, Numbered, Displayed, verdict};
+ghost use Rattle.calls.specs.Promise.{as_bytes, RoomFits, Decided};
+ghost use Rattle.calls.specs.Inner.{TaskOf, NumberedFor, DisplayedFor, Answered, verdict};
+ghost use Rattle.calls.specs.Written.{Holds};
 
-use crate::admit::{Verdict, admit};
-use crate::lengths::{BYTES, fit};
-use crate::write::write_bytes;
-use crate::{Answer, Decision};
-use asked::count;
+use crate::Answer;
+use crate::admit::admit;
+use crate::lengths::{WRONG_LENGTH, fit};
+use crate::query::Query;
+use crate::room::Lent;
+use crate::write::write;
+use asked::count::count;
 use asked::spread::ask;
 use fewest::Goal;
-use fewest::table::number;
+use fewest::table::{ENTRIES, NUMBERS, number};
+use fewest::task::Task;
 use levels::fill::fill;
-use records::{NONE, RECORDS, Reason, Refusal};
+use records::{NONE, Reason, Refusal};
 
 // A room of bytes is one of so many steps, of six bytes each.
 pub const ROOM_STEPS: usize = 1024;
@@ -30,126 +29,70 @@ const ROOM_BYTES: usize = 6 * ROOM_STEPS;
 
 // The steps at the start, and the path into the room where it holds so many, by the threads in the byte table, which is scratch
 // until the questions are asked.
-fn show<'a>(
-    site: &[u8],
-    triples: usize,
-    rule: &[u8],
-    starts: &[u8; RECORDS],
-    records: usize,
-    up: &'a [u8; RECORDS],
-    role: &'a [u8; RECORDS],
-    first: &'a [u8; RECORDS],
-    start: usize,
-    end: usize,
+fn show<C: Lent>(
+    query: &Query,
+    task: &Task,
     scratch: &[u8],
-    numbers: &[u8],
-    room: &mut [u8],
+    numbers: &[u8; NUMBERS],
+    most: usize,
+    room: &mut [C],
 ) -> usize
-    requires { Given site.now rule.now triples records starts.now (links up.now role.now first.now) × Numbered site.now triples rule.now up.now role.now first.now (goal_of (Goal.End end)) (pairs numbers.now) × (start < terms) × Fits as_bytes scratch.now numbers.now × RoomFits as_bytes room.old × Threads site.now triples scratch.now }
-    ensures { Displayed as_bytes site.now triples rule.now records (links up.now role.now first.now) (goal_of (Goal.End end)) (pairs numbers.now) start room_steps room.old room.new result }
+    requires { TaskOf query.now (Goal.End query.now.end) task.now × NumberedFor task.now numbers.now × ThreadsOf task.now scratch.now × Holds C.form most (C.entries room.old) }
+    ensures { DisplayedFor C.form task.now numbers.now query.now.start most (C.entries room.old) (C.entries room.new) result }
 {
-    let steps = number(numbers, records - 1, start);
-    if ROOM_STEPS < steps {
-        return steps;
+    let steps = number(numbers, query.count - 1, query.start);
+    if steps != NONE && steps <= most {
+        write(task, scratch, numbers, query.start, steps, room);
     }
-    write_bytes(
-        site,
-        scratch,
-        triples,
-        rule,
-        starts,
-        records,
-        up,
-        role,
-        first,
-        Goal::End(end),
-        numbers,
-        start,
-        steps,
-        room,
-    );
     steps
 }
 
 // The decision by the steps, by the most that the room holds and by the figure, which is counted.
-pub fn finish(asked: &[u8], steps: usize, most: usize) -> Decision
+pub fn finish(asked: &[u8], steps: usize, most: usize) -> Result<Answer, Refusal>
     requires { Bits asked.now }
     ensures { result ≡ verdict steps most (sum asked.now) }
 {
-    let figure = count::count(asked);
+    let figure = count(asked);
     if steps == NONE {
-        return Decision::Answer(Answer {
+        return Ok(Answer {
             yes: false,
             figure,
             steps: 0,
         });
     }
     if most < steps {
-        return Decision::Refused(Refusal {
+        return Err(Refusal {
             reason: Reason::Room,
             place: steps,
         });
     }
-    Decision::Answer(Answer {
+    Ok(Answer {
         yes: true,
         figure,
         steps,
     })
 }
 
-// What was admitted is answered: the numbers, the path by them, then the questions, with no table of ends.
-fn answer<'a>(
-    site: &[u8],
-    triples: usize,
-    rule: &[u8],
-    starts: &[u8; RECORDS],
-    records: usize,
-    up: &'a [u8; RECORDS],
-    role: &'a [u8; RECORDS],
-    first: &'a [u8; RECORDS],
-    start: usize,
-    end: usize,
-    asked: &mut [u8],
-    numbers: &mut [u8],
-    room: &mut [u8],
-) -> Decision
-    requires { Given site.now rule.now triples records starts.now (links up.now role.now first.now) × (start < terms) × (end < terms) × Fits as_bytes asked.old numbers.old × RoomFits as_bytes room.old }
-    ensures { Decided as_bytes site.now rule.now start end asked.old numbers.old room.old asked.new numbers.new room.new result }
+// A query that is in order is answered: the numbers, the path by them, then the questions, with no table of ends.
+pub(crate) fn answer<C: Lent>(
+    query: &Query,
+    asked: &mut [u8; ENTRIES],
+    numbers: &mut [u8; NUMBERS],
+    room: &mut [C],
+) -> Result<Answer, Refusal>
+    requires { RoomFits C.form (C.entries room.old) }
+    ensures { Answered C.form query.now (C.entries room.old) asked.new numbers.new (C.entries room.new) result }
 {
-    fill(
-        site,
-        triples,
-        rule,
-        starts,
-        records,
-        up,
-        role,
-        first,
-        Goal::End(end),
-        asked,
-        numbers,
-    );
-    let steps = show(
-        site, triples, rule, starts, records, up, role, first, start, end, asked, numbers, room,
-    );
-    ask(
-        site,
-        triples,
-        rule,
-        starts,
-        records,
-        up,
-        role,
-        first,
-        numbers,
-        start,
-        asked,
-        &mut room[..0],
-    );
-    finish(asked, steps, ROOM_STEPS)
+    let links = query.links();
+    let task = query.task(&links, Goal::End(query.end));
+    let most = C::steps(room);
+    fill(&task, asked, numbers);
+    let steps = show(query, &task, asked, numbers, most, room);
+    ask(&task, numbers, query.start, asked, &mut []);
+    finish(asked, steps, most)
 }
 
-// Whether the rule relates start to end, with the figure, both tables filled and the path shown in the room.
+// Whether the rule relates start to end, with the figure, both tables filled and the path shown in the room, all lent as bytes.
 pub fn decide_bytes(
     site: &[u8],
     rule: &[u8],
@@ -158,35 +101,17 @@ pub fn decide_bytes(
     asked: &mut [u8],
     numbers: &mut [u8],
     room: &mut [u8],
-) -> Decision
+) -> Result<Answer, Refusal>
     ensures { Decided as_bytes site.now rule.now start end asked.old numbers.old room.old asked.new numbers.new room.new result }
 {
-    if !fit(asked.len(), numbers.len(), room.len(), BYTES, ROOM_BYTES) {
-        return Decision::Refused(Refusal {
-            reason: Reason::TableLength,
-            place: 0,
-        });
+    if !fit(asked.len(), numbers.len(), room.len(), NUMBERS, ROOM_BYTES) {
+        return Err(WRONG_LENGTH);
     }
-    let admission = admit(site, rule, start, end);
-    let starts = admission.starts;
-    let links = admission.links;
-    let verdict = admission.verdict;
-    match verdict {
-        Verdict::Ready(query) => answer(
-            site,
-            query.triples,
-            rule,
-            &starts,
-            query.count,
-            &links.up,
-            &links.role,
-            &links.first,
-            query.start,
-            query.end,
-            asked,
-            numbers,
-            room,
-        ),
-        Verdict::Refused(refusal) => Decision::Refused(refusal),
-    }
+    let query = admit(site, rule, start, end)?;
+    answer(
+        &query,
+        asked.as_mut_array().unwrap(),
+        numbers.as_mut_array().unwrap(),
+        room,
+    )
 }

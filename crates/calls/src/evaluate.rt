@@ -2,38 +2,23 @@
 // numbers tell; and the ends, where a table of ends is lent.
 ghost use Rattle.std.specs.Prelude.{◌<◌, length};
 ghost use Rattle.meaning.specs.Limits.{terms};
-ghost use Rattle.fewest.specs.Table.{Full};
-ghost use Rattle.fewest.specs.Work.{goal_of, Ready};
-ghost use Rattle.asked.specs.Seek.{Whole};
-ghost use Rattle.calls.specs.Inner.{Evaluated};
+ghost use Rattle.calls.specs.Inner.{EvaluatedFor};
 
 use asked::spread::ask;
-use fewest::Goal;
+use fewest::table::{ENTRIES, NUMBERS};
+use fewest::task::Task;
 use levels::fill::fill;
-use records::RECORDS;
 
-pub fn evaluate<'a>(
-    site: &[u8],
-    triples: usize,
-    rule: &[u8],
-    starts: &[u8; RECORDS],
-    count: usize,
-    up: &'a [u8; RECORDS],
-    role: &'a [u8; RECORDS],
-    first: &'a [u8; RECORDS],
-    goal: Goal,
+pub fn evaluate(
+    task: &Task,
     start: usize,
-    asked: &mut [u8],
-    numbers: &mut [u8],
+    asked: &mut [u8; ENTRIES],
+    numbers: &mut [u8; NUMBERS],
     ends: &mut [u8],
 )
-    requires { Ready site.now triples rule.now starts.now count up.now role.now first.now × Full numbers.old × Whole asked.old × (0 < count) × (start < terms) }
-    ensures { Evaluated site.now triples rule.now up.now role.now first.now (goal_of goal) start (length ends.old) asked.new numbers.new ends.new }
+    requires { (0 < task.now.rule.count) × (start < terms) }
+    ensures { EvaluatedFor task.now start (length ends.old) asked.new numbers.new ends.new }
 {
-    fill(
-        site, triples, rule, starts, count, up, role, first, goal, asked, numbers,
-    );
-    ask(
-        site, triples, rule, starts, count, up, role, first, numbers, start, asked, ends,
-    )
+    fill(task, asked, numbers);
+    ask(task, numbers, start, asked, ends);
 }

@@ -1,24 +1,20 @@
-// The lengths of the lent tables, named and compared in one place for every call.
+// The lengths of the lent tables, compared in one place for every call.
 ghost use Rattle.std.specs.Prelude.{◌*◌, ◌≡◌};
 ghost use Rattle.meaning.specs.Limits.{terms, records};
 ghost use Rattle.fewest.specs.Tells.{Tells};
 
-use records::{RECORDS, TERMS};
+use fewest::table::ENTRIES;
+use records::{Reason, Refusal};
 
-// The entries of a table by record and term, and its bytes where each takes two.
-pub const ENTRIES: usize = RECORDS * TERMS;
-
-pub const BYTES: usize = ENTRIES + ENTRIES;
+// The refusal where a length is wrong.
+pub(crate) const WRONG_LENGTH: Refusal = Refusal {
+    reason: Reason::TableLength,
+    place: 0,
+};
 
 // Whether the lent tables have their lengths; those of the numbers, and of the third table or the room, are given.
 pub fn fit(asked: usize, numbers: usize, third: usize, long: usize, wide: usize) -> bool
     ensures { Tells ((asked ≡ records * terms) × (numbers ≡ long) × (third ≡ wide)) result }
 {
-    if asked != ENTRIES {
-        return false;
-    }
-    if numbers != long {
-        return false;
-    }
-    third == wide
+    (asked, numbers, third) == (ENTRIES, long, wide)
 }

@@ -1,11 +1,11 @@
 // Decide, ends and starts on lent tables, and the ceiling: document 01's calls, for all inputs.
-#![tactic(auto)]
+#![tactic(auto, unfolding(meaning::specs::Limits::terms, meaning::specs::Limits::records))]
 
-use records::Refusal;
-
+pub mod query; // query.rt: a query that is in order
 pub mod admit; // admit.rt: what is refused before any table is touched
 pub mod lengths; // lengths.rt: the lengths of what is lent
 pub mod evaluate; // evaluate.rt: both tables
+pub mod room; // room.rt: what a room is lent in
 pub mod write; // write.rt: the path into a room, the numbers out of their bytes
 pub mod decide; // decide.rt: one pair decided, with numbers and room lent as bytes
 pub mod decide_words; // decide_words.rt: the same, with numbers and room lent as 16-bit numbers
@@ -14,42 +14,16 @@ pub mod origins; // origins.rt: all starts
 pub mod ceiling; // ceiling.rt: the most that a figure can be
 
 // Yes or no, the work figure, and the path's steps (0 on no).
-#[derive(Clone, Copy)]
+#[derive(Clone, Copy, Debug, PartialEq, Eq)]
 pub struct Answer {
     pub yes: bool,
     pub figure: usize,
     pub steps: usize,
 }
 
-#[derive(Clone, Copy)]
-pub enum Decision {
-    Answer(Answer),
-    Refused(Refusal),
-}
-
 // How many ends, and the work figure.
-#[derive(Clone, Copy)]
+#[derive(Clone, Copy, Debug, PartialEq, Eq)]
 pub struct Found {
     pub ends: usize,
     pub figure: usize,
-}
-
-#[derive(Clone, Copy)]
-pub enum EndList {
-    Found(Found),
-    Refused(Refusal),
-}
-
-// How many starts.
-#[derive(Clone, Copy)]
-pub enum StartList {
-    Found(usize),
-    Refused(Refusal),
-}
-
-// The most that a figure can be.
-#[derive(Clone, Copy)]
-pub enum Limit {
-    At(usize),
-    Refused(Refusal),
 }

@@ -1,7 +1,6 @@
 // A case is taken from its line, `KIND LABEL XX XX ..`, where each XX is a byte. The kinds are
 // s: a site of these bytes; S: the same after a full site; r: a rule; 0 and 1: a query's start and end, a number of four bytes.
-ghost use Rattle.std.specs.Prelude.{◌+◌, ◌*◌, ◌≤◌, ◌<◌, ◌≡◌, ◌≢◌, ℕ, length, slice_index};
-ghost use Rattle.records.specs.Sites.{triple_width};
+ghost use Rattle.std.specs.Prelude.{◌≤◌, ◌<◌, length};
 
 use crate::show;
 use records::TRIPLES;
@@ -12,97 +11,60 @@ use std::io;
 // How many bytes a full site has.
 const FULL: usize = TRIPLES * TRIPLE_WIDTH;
 
-// The most bytes that a line has.
-const MORE: usize = 128;
+// Room for a full site, and behind it for the most bytes that a line has.
+const ROOM: usize = FULL + 128;
 
 // Runs the cases of the input. The room has a full site in front, so that a case's bytes follow it.
 pub fn run<P: Print>(rt: &P, input: &[u8]) -> io::Result<()> {
-    let mut space = [0; FULL + MORE];
-    let room: &mut [u8] = &mut space;
-    fill(room, TRIPLES);
-    lines(rt, input, room, FULL)
-}
-
-// Puts so many triples in front of the room, the ascending (k / 256, k % 256, 0).
-fn fill(room: &mut [u8], count: usize)
-    requires { count * triple_width ≤ length room.old }
-{
-    let mut k = 0;
-    while k < count {
-        let at = k * TRIPLE_WIDTH;
-        let subject = (k / BASE % BASE) as u8;
-        let predicate = (k % BASE) as u8;
-        let triple = [TRIPLE_KIND, 0, subject, 0, predicate, 0, 0];
-        room[at..at + TRIPLE_WIDTH].copy_from_slice(&triple);
-        k += 1;
-    }
-}
-
-// Where a byte first stands from a place on and before an end; the end where it does not.
-fn find(text: &[u8], from: usize, to: usize, sought: u8) -> usize
-    requires { (from ≤ to) × (to ≤ length text.now) }
-    ensures within { (from ≤ result) × (result ≤ to) }
-    ensures before { (k : ℕ) → from ≤ k → k < result → slice_index text.now k ≢ sought }
-    ensures found { result < to → slice_index text.now result ≡ sought }
-{
-    let mut at = from;
-    while at < to {
-        if text[at] == sought {
-            return at;
-        }
-        at += 1;
-    }
-    to
-}
-
-fn lines<P: Print>(rt: &P, input: &[u8], room: &mut [u8], at: usize) -> io::Result<()>
-    requires { at ≤ length room.old }
-{
-    let mut from = 0;
-    while from < input.len() {
-        let end = find(input, from, input.len(), b'\n');
-        line(rt, &input[from..end], room, at)?;
-        from = end + 1;
+    let mut room = [0; ROOM];
+    fill(&mut room[..FULL]);
+    for text in input.split(|letter| *letter == b'\n') {
+        line(rt, text, &mut room)?;
     }
     Ok(())
 }
 
-// A line's bytes go into the room from a place on.
-fn line<P: Print>(rt: &P, text: &[u8], room: &mut [u8], at: usize) -> io::Result<()>
-    requires { at ≤ length room.old }
-{
-    if text.len() < 2 {
+// Fills the room with triples, the ascending (k / 256, k % 256, 0).
+fn fill(room: &mut [u8]) {
+    for (k, triple) in room.chunks_exact_mut(TRIPLE_WIDTH).enumerate() {
+        let subject = (k / BASE % BASE) as u8;
+        let predicate = (k % BASE) as u8;
+        triple.copy_from_slice(&[TRIPLE_KIND, 0, subject, 0, predicate, 0, 0]);
+    }
+}
+
+// A line's bytes go into the room behind the full site.
+fn line<P: Print>(rt: &P, text: &[u8], room: &mut [u8; ROOM]) -> io::Result<()> {
+    let [kind, _, rest @ ..] = text else {
         return Ok(());
+    };
+    let gap = rest
+        .iter()
+        .position(|letter| *letter == b' ')
+        .unwrap_or(rest.len());
+    let (label, digits) = rest.split_at(gap);
+    let count = decode(digits, &mut room[FULL..]);
+    let after_full = &room[..FULL + count];
+    let bytes = &after_full[FULL..];
+    match kind {
+        b's' => show::site(rt, label, bytes),
+        b'S' => show::site(rt, label, after_full),
+        b'r' => show::rule(rt, label, bytes),
+        b'0' => show::query(rt, label, number(bytes), 0),
+        b'1' => show::query(rt, label, number(bytes), 1),
+        _ => Ok(()),
     }
-    let kind = text[0];
-    let gap = find(text, 2, text.len(), b' ');
-    let end = decode(&text[gap..], room, at);
-    case(rt, kind, &text[2..gap], room, at, end)
 }
 
-// Decodes bytes, each a space and two digits, into the room from a place on, and answers where they end.
-fn decode(text: &[u8], room: &mut [u8], at: usize) -> usize
-    requires { at ≤ length room.old }
-    ensures { (at ≤ result) × (result ≤ length room.new) }
+// Decodes bytes, each a space and two digits, into the room, and answers how many there are.
+fn decode(text: &[u8], room: &mut [u8]) -> usize
+    ensures { result ≤ length room.new }
 {
-    let mut i = 0;
-    let mut end = at;
-    while i + 2 < text.len() {
-        if room.len() <= end {
-            return end;
-        }
-        room[end] = byte(text, i + 1);
-        end += 1;
-        i += 3;
+    let (letters, _) = text.as_chunks::<3>();
+    for (byte, [_, high, low]) in room.iter_mut().zip(letters) {
+        *byte = digit(*high) * 16 + digit(*low);
     }
-    end
-}
-
-// The byte whose two digits begin at a place.
-fn byte(text: &[u8], at: usize) -> u8
-    requires { at + 1 < length text.now }
-{
-    digit(text[at]) * 16 + digit(text[at + 1])
+    letters.len().min(room.len())
 }
 
 // The value of a hex digit in lower case.
@@ -115,36 +77,9 @@ fn digit(letter: u8) -> u8
     (letter % 16 + 9) % 16
 }
 
-fn case<P: Print>(
-    rt: &P,
-    kind: u8,
-    label: &[u8],
-    room: &[u8],
-    at: usize,
-    end: usize,
-) -> io::Result<()>
-    requires { (at ≤ end) × (end ≤ length room.now) }
-{
-    match kind {
-        b's' => show::site(rt, label, &room[at..end]),
-        b'S' => show::site(rt, label, &room[0..end]),
-        b'r' => show::rule(rt, label, &room[at..end]),
-        b'0' => show::query(rt, label, number(&room[at..end]), 0),
-        b'1' => show::query(rt, label, number(&room[at..end]), 1),
-        _ => Ok(()),
-    }
-}
-
-fn wide(x: u8) -> u32
-    ensures { result < 256 }
-{
-    x as u32
-}
-
-// Four bytes as a number, high byte first.
-fn number(four: &[u8]) -> u32 {
-    if four.len() < 4 {
-        return 0;
-    }
-    ((wide(four[0]) * 256 + wide(four[1])) * 256 + wide(four[2])) * 256 + wide(four[3])
+// The first four bytes as a number, high byte first; 0 where there are fewer.
+fn number(bytes: &[u8]) -> u32 {
+    bytes
+        .first_chunk()
+        .map_or(0, |four| u32::from_be_bytes(*four))
 }

@@ -19,13 +19,10 @@ fn read_full<R: Read>(from: &mut R, buffer: &mut [u8]) -> usize
 {
     let mut done = 0;
     while done < buffer.len() {
-        let Ok(count) = from.read(&mut buffer[done..]) else {
-            return done;
-        };
-        if count == 0 {
-            return done;
+        match from.read(&mut buffer[done..]) {
+            Ok(0) | Err(_) => return done,
+            Ok(count) => done += count,
         }
-        done += count;
     }
     done
 }

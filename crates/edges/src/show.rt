@@ -1,46 +1,30 @@
 // One case, run and written as a line.
 use records::Refusal;
-use records::query::QueryAnswer;
-use records::rule::RuleAnswer;
-use records::site::SiteAnswer;
+use records::query::query_term;
+use records::rule::check_rule;
+use records::site::check_site;
 use std::io;
 
-fn read<P: Print>(rt: &P, label: &[u8], count: usize) -> io::Result<()> {
+// The case's label, and what it comes to: `ok` and a count, or the refusal.
+fn show<P: Print>(rt: &P, label: &[u8], found: Result<usize, Refusal>) -> io::Result<()> {
     rt.write_all(label)?;
-    println!(rt; " ok {count}")
-}
-
-fn refused<P: Print>(rt: &P, label: &[u8], refusal: Refusal) -> io::Result<()> {
-    let number = records::number(refusal.reason);
-    let place = refusal.place;
-    rt.write_all(label)?;
-    println!(rt; " {number} {place}")
+    match found {
+        Ok(count) => println!(rt; " ok {count}"),
+        Err(refusal) => println!(rt; " {refusal}"),
+    }
 }
 
 // A site: its triples are counted.
 pub fn site<P: Print>(rt: &P, label: &[u8], bytes: &[u8]) -> io::Result<()> {
-    let answer = records::site::check_site(bytes);
-    match answer {
-        SiteAnswer::Site(count) => read(rt, label, count),
-        SiteAnswer::Refused(refusal) => refused(rt, label, refusal),
-    }
+    show(rt, label, check_site(bytes))
 }
 
 // A rule: its records are counted.
 pub fn rule<P: Print>(rt: &P, label: &[u8], bytes: &[u8]) -> io::Result<()> {
-    let checked = records::rule::check_rule(bytes);
-    let answer = checked.answer;
-    match answer {
-        RuleAnswer::Rule(count) => read(rt, label, count),
-        RuleAnswer::Refused(refusal) => refused(rt, label, refusal),
-    }
+    show(rt, label, check_rule(bytes).map(|read| read.count))
 }
 
 // A query's start (place 0) or end (place 1): the term itself.
 pub fn query<P: Print>(rt: &P, label: &[u8], number: u32, place: usize) -> io::Result<()> {
-    let answer = records::query::query_term(number, place);
-    match answer {
-        QueryAnswer::Term(term) => read(rt, label, term),
-        QueryAnswer::Refused(refusal) => refused(rt, label, refusal),
-    }
+    show(rt, label, query_term(number, place))
 }

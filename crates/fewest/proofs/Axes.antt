@@ -1,21 +1,20 @@
--- A triple as an axis takes it, by the axis's number: it is the one move of the meaning that this triple makes for this axis,
+-- A triple as an axis of the code takes it: it is the one move of the meaning that this triple makes for this axis,
 -- and its terms are terms.
-use Prim.Native.Nat.{ℕ, zero, suc, ◌<◌, ◌≤◌}
+use Prim.Native.Nat.{ℕ, ◌<◌}
 use mathlib.Core.Path.{◌≡◌, refl}
-use mathlib.Core.Logic.{◌≢◌}
 use mathlib.Core.List.{List}
 use native.Mathlib.Omega.{arith}
 use lib.ListN.{length}
-use lib.Dec.{eqb}
 use Rattle.meaning.specs.Limits.{terms}
 use Rattle.meaning.specs.Site as meant
 use Rattle.meaning.specs.Site.{Site, triple}
 use Rattle.meaning.specs.Move.{Direction, next, edge, node, start, middle, finish, Axis, ahead, inverse, any, Passes, Move, going, coming}
+use Rattle.records.specs.declared.Axis.{Axis as CodeAxis}
+use Rattle.records.specs.declared.Axis.TheVariants as code
 use Rattle.records.specs.Sites.{triple_width, subject_part, predicate_part, object_part, term_at, site_of, Accepted}
-use Rattle.records.specs.Rules.{last_axis, axis_numbered}
+use Rattle.records.specs.Rules.{axis_of}
 use Rattle.records.proofs.Sites.{length-site_of}
 use Rattle.records.proofs.Parts.{by_parts, triple_terms, triple_parts}
-use Rattle.records.proofs.Tests.{by_test}
 use Rattle.fewest.specs.declared.look.Moved.{Moved}
 use Rattle.fewest.specs.declared.look.Parts.{Parts}
 use Rattle.fewest.specs.Work.{parts_of, Axial, moved_at}
@@ -52,17 +51,14 @@ module _ (b : List ℕ) (k : ℕ) (s : Site) (h : k < length s) (stands : triple
     alone = λ t p u move. let x = comes move in (x.ends, x.passes, x.starts);
   })
 
-  -- the axis by its number, one of the six that take a triple
-  taken_number : (a : ℕ) → a ≢ 0 → a ≤ last_axis → Taken s k (axis_numbered a) (moved_at b k (parts_of a))
-  unfolding axis_numbered parts_of moved_at
-  taken_number zero e l = absurd (e refl)
-  taken_number (suc zero) e l = taken_ahead next
-  taken_number (suc (suc zero)) e l = taken_inverse next
-  taken_number (suc (suc (suc zero))) e l = taken_ahead edge
-  taken_number (suc (suc (suc (suc zero)))) e l = taken_inverse edge
-  taken_number (suc (suc (suc (suc (suc zero))))) e l = taken_ahead node
-  taken_number (suc (suc (suc (suc (suc (suc zero)))))) e l = taken_inverse node
-  taken_number (suc (suc (suc (suc (suc (suc (suc a))))))) e l = absurd (omega arith)
+  taken_by : (a : CodeAxis) → Taken s k (axis_of a) (moved_at b k (parts_of a))
+  unfolding moved_at
+  taken_by code.Next = taken_ahead next
+  taken_by code.NextInverse = taken_inverse next
+  taken_by code.Edge = taken_ahead edge
+  taken_by code.EdgeInverse = taken_inverse edge
+  taken_by code.Node = taken_ahead node
+  taken_by code.NodeInverse = taken_inverse node
 
 -- what holds of each part of a record, of the three that an axis takes
 pub record Each (P : ℕ → Type 0) (p : Parts) : Type 0 where
@@ -70,15 +66,13 @@ pub record Each (P : ℕ → Type 0) (p : Parts) : Type 0 where
   pub middle : P p.middle
   pub to : P p.to
 
-each_part : (P : ℕ → Type 0) → P subject_part → P predicate_part → P object_part → (a : ℕ) → Each P (parts_of a)
-unfolding parts_of
-each_part P s p o a =
-    by_test (Each P) (eqb a 1) (λ e. record { from = s; middle = p; to = o })
-    (λ e. by_test (Each P) (eqb a 2) (λ e. record { from = o; middle = p; to = s })
-    (λ e. by_test (Each P) (eqb a 3) (λ e. record { from = s; middle = o; to = p })
-    (λ e. by_test (Each P) (eqb a 4) (λ e. record { from = p; middle = o; to = s })
-    (λ e. by_test (Each P) (eqb a 5) (λ e. record { from = p; middle = s; to = o })
-    (λ e. record { from = o; middle = s; to = p })))))
+each_part : (P : ℕ → Type 0) → P subject_part → P predicate_part → P object_part → (a : CodeAxis) → Each P (parts_of a)
+each_part P s p o code.Next = record { from = s; middle = p; to = o }
+each_part P s p o code.NextInverse = record { from = o; middle = p; to = s }
+each_part P s p o code.Edge = record { from = s; middle = o; to = p }
+each_part P s p o code.EdgeInverse = record { from = p; middle = o; to = s }
+each_part P s p o code.Node = record { from = p; middle = s; to = o }
+each_part P s p o code.NodeInverse = record { from = o; middle = s; to = p }
 
 -- They stand in the record.
 pub axial_inside : {p : Parts} → Axial p → Each (λ i. i < triple_width) p
@@ -92,8 +86,8 @@ pub record Terms (m : Moved) : Type 0 where
 
 module _ {b : List ℕ} {k n : ℕ} {p : Parts} {m : Moved} (by : m ≡ moved_at b k p) (good : Accepted b n) (here : k < n) where
   -- What the code makes of triple number k is its one move.
-  pub moved_taken : (a : ℕ) → p ≡ parts_of a → a ≢ 0 → a ≤ last_axis → Taken (site_of b n) k (axis_numbered a) m
-  moved_taken a e other l = rw (by, e) (taken_number b k (site_of b n) (rw (length-site_of b n) here) (triple_parts good here) a other l)
+  pub moved_taken : (a : CodeAxis) → p ≡ parts_of a → Taken (site_of b n) k (axis_of a) m
+  moved_taken a e = rw (by, e) (taken_by b k (site_of b n) (rw (length-site_of b n) here) (triple_parts good here) a)
 
   -- Its terms are terms.
   pub moved_terms : Axial p → Terms m

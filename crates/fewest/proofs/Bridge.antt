@@ -1,4 +1,4 @@
--- From the arrays and the table that the loops know to the number table of document 01: lowering entries to what is
+-- From the lists and the table that the loops know to the number table of document 01: lowering entries to what is
 -- offered keeps the table sound, and when nothing offered is lower it is closed. So it is the number table.
 use Prim.Native.Nat.{ℕ, ◌+◌, ◌*◌, ◌<◌, ◌≤◌}
 use mathlib.Core.Path.{◌≡◌, refl, ◌∙◌}

@@ -15,7 +15,7 @@ use Rattle.records.specs.declared.Label.TheVariants.{Any, Term, Test}
 use Rattle.records.specs.declared.Step.{Step}
 use Rattle.records.specs.declared.Record.{Record}
 use Rattle.records.specs.declared.Record.TheVariants as kind
-use Rattle.records.specs.Rules.{axis_numbered, labelled, rec_of}
+use Rattle.records.specs.Rules.{axis_meant, labelled, rec_of}
 use Rattle.fewest.specs.Frame.{Frame}
 use Rattle.fewest.specs.Offer.{Work, copying, resting, works_of, Lowers, Quiet, Settles, rest, work, Settled}
 use Rattle.fewest.specs.Sweep.{sum, Swept}
@@ -68,9 +68,9 @@ module _ {A : Type 0} {μ : A → ℕ} {R : Work → A → A → Type 0} (chain 
   -- Each kind of record was swept where its works were.
   module _ {Q : Work → A → Type 0} {x : Record} (r f : ℕ) {T U : A} {was now : Bool} where
     pub by_step : {s : Step} → x ≡ kind.Step s →
-        Swept μ (R (work_of (axis_numbered s.axis) s.label)) (Q (work_of (axis_numbered s.axis) s.label)) T U was now →
+        Swept μ (R (work_of (axis_meant s.axis) s.label)) (Q (work_of (axis_meant s.axis) s.label)) T U was now →
         WorksSwept μ R Q (works_of (rec_of x) r f) T U was now
-    by_step {s} e p = rw e (step_swept (axis_numbered s.axis) s.label r f p)
+    by_step {s} e p = rw e (step_swept (axis_meant s.axis) s.label r f p)
 
     pub by_sequence : x ≡ kind.Sequence → Swept μ (R (copying f)) (Q (copying f)) T U was now → WorksSwept μ R Q (works_of (rec_of x) r f) T U was now
     by_sequence e p = rw e (works_more p works_none)

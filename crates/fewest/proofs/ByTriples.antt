@@ -1,21 +1,20 @@
 -- A record's row is lowered along the moves of a step whose axis takes triples, triple by triple.
 -- Such a move has the number of its triple; so every triple seen, every move was seen.
 use Prim.Native.Nat.{ℕ, ◌<◌, ◌≤◌}
-use mathlib.Core.Path.{◌≡◌, refl}
-use mathlib.Core.Logic.{◌≢◌}
+use mathlib.Core.Path.{refl}
 use mathlib.Core.Bool.{Bool}
 use mathlib.Core.List.{List}
 use native.Mathlib.Omega.{arith}
 use lib.ListN.{length}
-use lib.Dec.{eqb}
-use borrow.Author.Tests.{eq-eqb, ne_eqb, lt-ltb}
+use borrow.Author.Tests.{eq-eqb, lt-ltb}
 use Rattle.meaning.specs.Site.{Site}
 use Rattle.meaning.specs.Move.{Direction, Axis, self, ahead, inverse, Move, going, coming, any, Allows}
 use Rattle.meaning.specs.Move as move
 use Rattle.records.specs.declared.Label.{Label}
 use Rattle.records.specs.declared.Label.TheVariants.{Any, Term, Test}
-use Rattle.records.specs.Rules.{axis_numbered}
-use Rattle.records.proofs.Tests as picked
+use Rattle.records.specs.declared.Axis.{Axis as CodeAxis}
+use Rattle.records.specs.declared.Axis.TheVariants as code
+use Rattle.records.specs.Rules.{axis_of}
 use Rattle.fewest.specs.Frame.{Frame}
 use Rattle.fewest.specs.Offer.{by_step, by_test, Lowers, Quiet}
 use Rattle.fewest.specs.Sweep.{sum}
@@ -28,21 +27,14 @@ pub data Takes : Axis → Type 0 where
   forwards : {d : Direction} → Takes (ahead d)
   backwards : {d : Direction} → Takes (inverse d)
 
--- the axis numbered 0 is self, and every other takes them
-pub self_axis : (a : ℕ) → a ≡ 0 → axis_numbered a ≡ self
-unfolding axis_numbered
-self_axis a e = rw (eq-eqb a 0 e)
-
-pub axis_takes : (a : ℕ) → a ≢ 0 → Takes (axis_numbered a)
-unfolding axis_numbered
-axis_takes a other =
-    rw (ne_eqb a 0 other)
-    (picked.by_test Takes (eqb a 1) (λ e. forwards)
-    (λ e. picked.by_test Takes (eqb a 2) (λ e. backwards)
-    (λ e. picked.by_test Takes (eqb a 3) (λ e. forwards)
-    (λ e. picked.by_test Takes (eqb a 4) (λ e. backwards)
-    (λ e. picked.by_test Takes (eqb a 5) (λ e. forwards)
-    (λ e. backwards))))))
+-- each of the code's does
+pub axis_takes : (a : CodeAxis) → Takes (axis_of a)
+axis_takes code.Next = forwards
+axis_takes code.NextInverse = backwards
+axis_takes code.Edge = forwards
+axis_takes code.EdgeInverse = backwards
+axis_takes code.Node = forwards
+axis_takes code.NodeInverse = backwards
 
 -- A move by such an axis has a triple's number; without its label it is one too, and the label allows its middle.
 pub by_triple : {s : Site} {a : Axis} {l : move.Label} {k t m u : ℕ} → Takes a → Move s a l k t m u →

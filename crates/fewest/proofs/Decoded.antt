@@ -2,11 +2,10 @@
 -- Above them no proof looks at a byte.
 use Prim.Native.Nat.{ℕ, suc, zero, ◌+◌, ◌*◌, ◌/◌, ◌<◌, ◌≤◌}
 use mathlib.Core.Path.{◌≡◌, refl, ap}
-use mathlib.Core.List.{List, [], ◌∷◌, ◌++◌, append-nil}
+use mathlib.Core.List.{List, [], ◌∷◌}
 use native.Mathlib.Omega.{arith}
 use native.Mathlib.Decide.{dec_lt}
-use lib.ListN.{length, get_or, set, drop, replicate, get_or-eq_default}
-use lib.Seq.{drop-length}
+use lib.ListN.{length, get_or, set, replicate, get_or-eq_default}
 use Rattle.records.specs.Bytes.{base}
 use Rattle.fewest.specs.Pairs.{coupled, pairs}
 use Rattle.fewest.specs.Cells.{cells}
@@ -52,30 +51,24 @@ pairs_top b bytes i = elim (dec_lt (i + i + 1) (length b)) [
   | no h ↦ let past : length (pairs b) ≤ i = rw (pairs_long b) (omega arith) in rw (get_or-eq_default (pairs b) 0 past) (omega arith)
 ]
 
-pub pairs_set : (b : List ℕ) (i x y : ℕ) → i + i + 1 < length b → pairs (set (set b (i + i) x) (i + i + 1) y) ≡ set (pairs b) i (x * base + y)
+pub pairs_set : (b : List ℕ) (i x y : ℕ) {v : ℕ} → i + i + 1 < length b → x * base + y ≡ v → pairs (set (set b (i + i) x) (i + i + 1) y) ≡ set (pairs b) i v
 unfolding pairs
-pairs_set = store _
+pairs_set b i x y h e = rw (← e) (store _ b i x y h)
 
 pub cells_at : (b : List ℕ) (i : ℕ) → i + i + 1 < length b → get_or (cells b) i 0 ≡ get_or b (i + i + 1) 0 * base + get_or b (i + i) 0
 unfolding cells
 cells_at = at _
 
-pub cells_set : (b : List ℕ) (i x y : ℕ) → i + i + 1 < length b → cells (set (set b (i + i) x) (i + i + 1) y) ≡ set (cells b) i (y * base + x)
+pub cells_set : (b : List ℕ) (i x y : ℕ) {v : ℕ} → i + i + 1 < length b → y * base + x ≡ v → cells (set (set b (i + i) x) (i + i + 1) y) ≡ set (cells b) i v
 unfolding cells
-cells_set = store _
+cells_set b i x y h e = rw (← e) (store _ b i x y h)
 
 pub cells_long : (b : List ℕ) → length (cells b) ≡ length b / 2
 unfolding cells
 cells_long = long _
 
 -- bytes that are all the same make numbers that are
-pairs_same : (n v : ℕ) → pairs (replicate (n + n) v) ≡ replicate n (v * base + v)
+pub pairs_same : (n v : ℕ) → pairs (replicate (n + n) v) ≡ replicate n (v * base + v)
 unfolding pairs
 pairs_same zero v = refl
 pairs_same (suc n) v = rw (twice n) (ap (λ (l : List ℕ). (v * base + v) ∷ l) (pairs_same n v))
-
--- so filling all bytes of a table fills the table
-pub pairs_filled : {b : List ℕ} (d : List ℕ) (n v i : ℕ) → length d ≡ n + n → i ≡ length d → b ≡ replicate i v ++ drop i d →
-    pairs b ≡ replicate n (v * base + v)
-pairs_filled d n v i long all filled =
-    rw (filled, all, drop-length, append-nil (replicate (length d) v), long) (pairs_same n v)

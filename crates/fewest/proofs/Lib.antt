@@ -10,6 +10,7 @@ pub mod Nexts
 pub mod Works
 pub mod Bridge
 pub mod Walk
+pub mod Seen
 pub mod Axes
 pub mod Looks
 pub mod Loops

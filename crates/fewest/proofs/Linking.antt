@@ -12,7 +12,7 @@ use Rattle.meaning.specs.Limits.{records}
 use Rattle.meaning.specs.Expression.{Rec, Expr, step, tested, sequence, choice, star, last, size, Numbered, Expression, Context, whole, test, first_of, second_of, one_of, other_of, round_of, plug}
 use Rattle.meaning.proofs.Names.{last_number, operand_last, numbered_node, node_below, one_node}
 use Rattle.meaning.proofs.Postfix.{expression_long, node_at, leaves_expression}
-use Rattle.records.specs.declared.rule.RuleAnswer.TheVariants.{Rule}
+use Rattle.std.specs.Prelude.{Ok}
 use Rattle.records.specs.Rules.{RuleChecked, records_of}
 use Rattle.records.proofs.Starts.{front_none}
 use Rattle.records.proofs.Checked.{rule_leaves}
@@ -91,7 +91,7 @@ pub record Linking (rule : Expr) (r : ℕ) (L : Links) : Type 0 where
   pub known : (k : ℕ) → get_or L.role k 0 ≤ as_round
   pub firsts : (k : ℕ) → get_or L.first k 0 < size rule
 
--- At the end of the rule the arrays hold 0, which is right for the whole rule.
+-- At the end of the rule the lists hold 0, which is right for the whole rule.
 linking_none : {rule : Expr} {r : ℕ} → Numbered 0 rule → size rule ≤ r →
     Linking rule r (links (replicate records 0) (replicate records 0) (replicate records 0))
 linking_none {rule} {r} numbered past = record {
@@ -122,7 +122,7 @@ higher_store up role i p s h j good old k other = elim (ℕ_discrete k i) [
 ]
 
 module _ {rule : Expr} (numbered : Numbered 0 rule) (few : size rule ≤ records) where
-  -- the record of a subexpression is one of the rule's, so the arrays have an entry for it
+  -- the record of a subexpression is one of the rule's, so the lists have an entry for it
   within : (e : Expr) (K : Context) → plug e K ≡ rule → last e < size rule
   within e K p = rw p at (node_below e K (rw p numbered))
 
@@ -251,11 +251,11 @@ linking_all end l = record {
   choices = λ q a b K p. l.choices q a b K p (omega arith);
 }
 
--- the arrays are on the way, for the expression that the records are
+-- the lists are on the way, for the expression that the records are
 abbrev pub LinkingOf : List Rec → ℕ → Links → Type 0
 LinkingOf rs r L = (rule : Expr) → Expression rs rule → Linking rule r L
 
-module _ {s : List ℕ} {count : ℕ} (checked : RuleChecked s (Rule count)) where
+module _ {s : List ℕ} {count : ℕ} (checked : RuleChecked s (Ok count)) where
   -- The loop begins.
   pub linking_begins : LinkingOf (records_of s) count (links (replicate records 0) (replicate records 0) (replicate records 0))
   linking_begins rule x =

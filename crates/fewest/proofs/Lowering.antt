@@ -1,5 +1,5 @@
 -- What lowering entries to what is offered keeps: the bound of the table, and the rows that are not worked on.
--- Nothing here knows the rule but by its arrays.
+-- Nothing here knows the rule but by its lists.
 use Prim.Native.Nat.{ℕ, ◌+◌, ◌<◌, ◌≤◌}
 use mathlib.Core.Path.{◌≡◌, refl, ◌∙◌}
 use mathlib.Core.Logic.{inl, ◌≢◌}

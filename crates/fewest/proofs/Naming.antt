@@ -1,8 +1,8 @@
 -- A step that names its middle is looked at along the thread of that name, and one that finishes the rule along the thread of the end:
 -- what stands between one triple of the thread and the next offers nothing. So the thread seen, every triple was seen.
-use Prim.Native.Nat.{ℕ, zero, suc, ◌<◌, ◌≤◌}
-use mathlib.Core.Path.{◌≡◌, refl, sym, ◌∙◌}
-use mathlib.Core.Logic.{◌⊎◌, inl, inr, ◌≢◌}
+use Prim.Native.Nat.{ℕ, ◌<◌, ◌≤◌}
+use mathlib.Core.Path.{◌≡◌, sym, ◌∙◌}
+use mathlib.Core.Logic.{◌≢◌}
 use mathlib.Core.Bool.{Bool}
 use mathlib.Core.List.{List}
 use native.Mathlib.Omega.{arith}
@@ -13,42 +13,20 @@ use Rattle.meaning.specs.Limits.{none}
 use Rattle.meaning.specs.Site.{Triple, Site, triple}
 use Rattle.meaning.specs.Move.{Axis, Move, going, coming, any}
 use Rattle.meaning.specs.Fewest.{Goal, end}
+use Rattle.records.specs.declared.Axis.{Axis as CodeAxis}
 use Rattle.records.specs.declared.Label.{Label}
 use Rattle.records.specs.declared.Label.TheVariants.{Term}
 use Rattle.records.specs.Sites.{site_of}
-use Rattle.records.specs.Rules.{last_axis, axis_numbered}
 use Rattle.records.proofs.Sites.{length-site_of}
 use Rattle.fewest.specs.Frame.{as_whole, frame}
 use Rattle.fewest.specs.Offer.{view, Lowers}
 use Rattle.fewest.specs.Sweep.{sum}
-use Rattle.fewest.specs.Threads.{FirstWith, start_by, middle_along, finish_along, StartsAt, AtMiddle}
+use Rattle.fewest.specs.Threads.{FirstWith, start_by, middle_along, finish_along, StartsAt}
 use Rattle.fewest.specs.Work.{work_of, QuietBy, Others}
 use Rattle.fewest.proofs.Sweeps.{swept_weaken}
 use Rattle.fewest.proofs.Roles.{continues_at}
 use Rattle.fewest.proofs.Loops.{Seen}
 use Rattle.fewest.proofs.ByTriples.{Takes, forwards, backwards, by_triple}
-
--- Of the axes that take triples the first two have the predicate in their middle, the next two the object, the last two the subject.
-pub middle_predicate : {a : ℕ} → (a ≡ 1) ⊎ (a ≡ 2) → AtMiddle (axis_numbered a) 5
-unfolding axis_numbered
-middle_predicate (inl e) = rw e (record { moving = λ z. omega arith; known = omega arith; starts = λ x. refl })
-middle_predicate (inr e) = rw e (record { moving = λ z. omega arith; known = omega arith; starts = λ x. refl })
-
-pub middle_object : {a : ℕ} → (a ≡ 3) ⊎ (a ≡ 4) → AtMiddle (axis_numbered a) 2
-unfolding axis_numbered
-middle_object (inl e) = rw e (record { moving = λ z. omega arith; known = omega arith; starts = λ x. refl })
-middle_object (inr e) = rw e (record { moving = λ z. omega arith; known = omega arith; starts = λ x. refl })
-
-pub middle_subject : (a : ℕ) → 5 ≤ a → a ≤ last_axis → AtMiddle (axis_numbered a) 1
-unfolding axis_numbered
-middle_subject zero l h = absurd (omega arith)
-middle_subject (suc zero) l h = absurd (omega arith)
-middle_subject (suc (suc zero)) l h = absurd (omega arith)
-middle_subject (suc (suc (suc zero))) l h = absurd (omega arith)
-middle_subject (suc (suc (suc (suc zero)))) l h = absurd (omega arith)
-middle_subject (suc (suc (suc (suc (suc zero))))) l h = record { moving = λ z. omega arith; known = omega arith; starts = λ x. refl }
-middle_subject (suc (suc (suc (suc (suc (suc zero)))))) l h = record { moving = λ z. omega arith; known = omega arith; starts = λ x. refl }
-middle_subject (suc (suc (suc (suc (suc (suc (suc a))))))) l h = absurd (omega arith)
 
 finish_is : {s : Site} {a : Axis} {k t m u : ℕ} → Takes a → Move s a any k t m u → u ≡ finish_along a (triple s k)
 finish_is forwards (going p i) = p.ends
@@ -73,14 +51,14 @@ end_others b n v up l r X takes whole only top i other t p u w move passes c =
     let few = top t in
     omega arith
 
-module _ (b : List ℕ) {n by : ℕ} {place : Triple → ℕ} {up role : List ℕ} {g : Goal} {a : Axis} (l : Label) (takes : Takes a) (at : StartsAt place by) (term r : ℕ) where
+module _ (b : List ℕ) {n : ℕ} (by : CodeAxis) {place : Triple → ℕ} {up role : List ℕ} {g : Goal} {a : Axis} (l : Label) (takes : Takes a) (at : StartsAt place by) (term r : ℕ) where
   thread_quiet : {X : List ℕ} {m k j : ℕ} → Others b n place term up role g a l r X → FirstWith (start_by by (site_of b n)) n term m j → m ≤ k →
       ((i : ℕ) → i < k → QuietBy (frame (site_of b n) up role g) a l r i X) → (i : ℕ) → i < j → QuietBy (frame (site_of b n) up role g) a l r i X
   thread_quiet {k = k} others first up seen i h t p u v move passes c = elim (dec_lt i k) [
     | yes early ↦ seen i early t p u v move passes c
     | no late ↦
         let inside : i < n = rw (length-site_of b n) at (by_triple takes move).0 in
-        others i (λ e. let least = first.least i (omega arith) inside (at.starts (triple (site_of b n) i) ∙ e) in absurd (omega arith)) t p u v move passes c
+        others i (λ e. let least = first.least i (omega arith) inside (at (triple (site_of b n) i) ∙ e) in absurd (omega arith)) t p u v move passes c
   ]
 
   -- Where the triples before number k are seen, those before the next of the thread are.

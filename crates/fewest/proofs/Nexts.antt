@@ -50,7 +50,7 @@ module _ {F : Frame} where
     home_alike (ending e h) = ending (sym roles ∙ e) (rw (← ups) h)
 
 module _ {rule : Expr} {L : Links} (linked : Linked rule L) {s : Site} {g : Goal} where
-  -- The arrays say what the context does.
+  -- The lists say what the context does.
   pub role_next : (e : Expr) (K : Context) {b : ℕ} → plug e K ≡ rule → Next (along L s g) (last e) b →
       SaysNext (along L s g) (up_of K) b (role_of K)
   role_next e K {b} p n = subst₂ (λ q k. SaysNext (along L s g) q b k) (linked.ups e K p) (linked.roles e K p) (next_says n)

@@ -5,7 +5,7 @@ use mathlib.Core.Path.{◌≡◌, refl, ap, ◌∙◌}
 use mathlib.Core.Logic.{◌≢◌}
 use mathlib.Core.List.{List}
 use native.Mathlib.Omega.{arith}
-use lib.ListN.{get_or, set}
+use lib.ListN.{get_or}
 use Rattle.meaning.specs.Limits.{records}
 use Rattle.meaning.specs.Move.{Axis, Label}
 use Rattle.meaning.specs.Expression.{Rec, plain, starring, Expr, step, tested, sequence, choice, star, last, first, Expression, operands, Context, second_of, other_of, plug}
@@ -15,8 +15,8 @@ use Rattle.records.specs.Rules.{records_of}
 use Rattle.records.specs.First.{First, taken, Ends}
 use Rattle.records.proofs.Starts.{records_few}
 use Rattle.records.proofs.First.{first_below, first_before, first_unique, operand, first_operand, first_node}
-use Rattle.fewest.specs.Frame.{as_test, as_first, as_round, role_of, up_of, Links, links}
-use Rattle.fewest.specs.LinksOf.{stand, begin, join, standing, Precedes, Joined, Stood}
+use Rattle.fewest.specs.Frame.{as_test, as_first, as_round, role_of, up_of, Links}
+use Rattle.fewest.specs.LinksOf.{stand, take, begin, join, standing, Precedes, Joined, Stood}
 use Rattle.fewest.proofs.Roles.{operand_before}
 
 -- a record that ends an expression stands within the limit
@@ -37,10 +37,9 @@ join_operands {rs} {r} {m} e two p =
     record { some = some; before = omega (arith, first_before p); precedes = rw same at p }
 
 -- The two stores of a join and its own, in the order of the code.
-pub joined : {rs : List Rec} {r m p s : ℕ} {up up₁ up₂ role role₁ role₂ first : List ℕ} → Join rs r m →
-    (up₁ ≡ set up (r - 1) (get_or up r 0)) × (role₁ ≡ set role (r - 1) (get_or role r 0)) →
-    (up₂ ≡ set up₁ (m - 1) p) × (role₂ ≡ set role₁ (m - 1) s) → Joined rs r p s (links up role first) (links up₂ role₂ (set first r (m - 1)))
-joined {m = m} j one two = record { operand = m - 1; precedes = j.precedes; stores = rw (two.0, two.1, one.0, one.1) }
+pub joined : {rs : List Rec} {r m p s : ℕ} {L L₁ L₂ : Links} → Join rs r m →
+    L₁ ≡ take (r - 1) r L → L₂ ≡ stand (m - 1) p s L₁ → Joined rs r p s L (begin r (m - 1) L₂)
+joined {m = m} j one two = record { operand = m - 1; precedes = j.precedes; stores = rw (two, one) }
 
 -- A record that takes an operand is not the first.
 pub has_operand : {rs : List Rec} {r : ℕ} (k : Rec) → Ends rs r → get_or rs r starring ≡ k → operands k ≢ 0 → 0 < r
@@ -51,13 +50,12 @@ pub stood_none : {rs : List Rec} {r : ℕ} {L : Links} (a : Axis) (l : Label) �
 stood_none a l here = record { operand = 0; precedes = λ two. absurd (omega (arith, ap operands here)); stores = rw here refl }
 
 -- of one that takes one, which stands so,
-pub stood_one : {rs : List Rec} {r : ℕ} {up role first up₁ role₁ : List ℕ} (k : Rec) (s : ℕ) → get_or rs r starring ≡ k → operands k ≡ 1 →
-    ((L : Links) → stand (r - 1) r s L ≡ standing k r 0 L) → (up₁ ≡ set up (r - 1) r) × (role₁ ≡ set role (r - 1) s) →
-    Stood rs r (links up role first) (links up₁ role₁ first)
+pub stood_one : {rs : List Rec} {r : ℕ} {L L' : Links} (k : Rec) (s : ℕ) → get_or rs r starring ≡ k → operands k ≡ 1 →
+    ((M : Links) → stand (r - 1) r s M ≡ standing k r 0 M) → L' ≡ stand (r - 1) r s L → Stood rs r L L'
 stood_one k s here one same e = record {
   operand = 0;
   precedes = λ two. absurd (omega (arith, ap operands here));
-  stores = rw (here, e.0, e.1) (same _);
+  stores = rw here (e ∙ same _);
 }
 
 -- and of a join, whose first operand stands so.

@@ -2,7 +2,7 @@
 -- a step and a star are quiet.
 use Prim.Native.Nat.{ℕ, ◌+◌, ◌*◌, ◌-◌, ◌<◌, ◌≤◌}
 use mathlib.Core.Path.{◌≡◌}
-use mathlib.Core.Logic.{◌⊎◌, inl, inr, ⊎_elim, ◌≢◌}
+use mathlib.Core.Logic.{◌⊎◌, inl, inr, ⊎_elim}
 use mathlib.Core.Bool.{Bool, false}
 use mathlib.Core.List.{List}
 use native.Mathlib.Omega.{arith}
@@ -17,7 +17,7 @@ use Rattle.records.specs.Bytes.{base}
 use Rattle.records.specs.declared.Label.{Label}
 use Rattle.records.proofs.Tests.{by_test}
 use Rattle.fewest.specs.Pairs.{pairs}
-use Rattle.fewest.specs.Frame.{as_whole, as_test, as_first, as_round, Climbs, Frame, frame}
+use Rattle.fewest.specs.Frame.{as_whole, as_first, as_round, Climbs, Frame, frame}
 use Rattle.fewest.specs.Offer.{view, Continues, resting, copying, Offer, by_rest, Quiet}
 use Rattle.fewest.specs.Table.{Full}
 use Rattle.fewest.specs.declared.look.Moved.{Moved}
@@ -71,13 +71,12 @@ module _ {up role : List ℕ} {g : Goal} {T : List ℕ} {b r : ℕ} where
     climb_first q row s t v here c =
         ⊎_elim (λ l. l) (λ d. let e = continues_at as_first q d in rw e (row t here)) (climb.passed s t v here c)
 
-    -- one star up, where the role is none of the others
-    pub climb_up : Climbs records up role → get_or role at 0 ≢ as_whole → get_or role at 0 ≢ as_test → get_or role at 0 ≢ as_first →
-        RowBelow b (get_or up at 0 - 1) T → Climbed up role g T b r (get_or up at 0)
-    climb_up climbs x y z row =
-        let k = climbs.known at climb.inside in
-        let q : get_or role at 0 ≡ as_round = omega arith in record {
-          inside = (climbs.higher at climb.inside x).1;
+    -- one star up
+    pub climb_up : Climbs records up role → get_or role at 0 ≡ as_round → RowBelow b (get_or up at 0 - 1) T →
+        Climbed up role g T b r (get_or up at 0)
+    climb_up climbs q row =
+        record {
+          inside = (climbs.higher at climb.inside (λ e. omega arith)).1;
           passed = λ s t v here c. ⊎_elim inl
               (λ d. ⊎_elim (λ e. inl (rw e (row t here))) inr (continues_at as_round q d)) (climb.passed s t v here c);
         }

@@ -1,5 +1,5 @@
 -- What may follow a finished subexpression, told by role and parent, is what its context says is left.
--- The numbers of the arrays meet the expression here and in Works.antt, and nowhere else.
+-- The numbers of the lists meet the expression here and in Works.antt, and nowhere else.
 use Prim.Native.Nat.{ℕ, zero, suc, ◌+◌, ◌-◌, ◌<◌, ◌≤◌}
 use mathlib.Core.Path.{◌≡◌, refl, sym, subst, subst₂}
 use mathlib.Core.Logic.{◌⊎◌, inl, inr, ⊎_elim}
@@ -70,7 +70,7 @@ abbrev pub along : Links → Site → Goal → Frame
 along L s g = frame s L.up L.role g
 
 module _ {rule : Expr} {L : Links} (numbered : Numbered 0 rule) (linked : Linked rule L) {s : Site} {g : Goal} {T : List ℕ} where
-  -- the arrays say what the context does
+  -- the lists say what the context does
   role_says : (e : Expr) (K : Context) {u v : ℕ} → plug e K ≡ rule → Continues (along L s g) T (last e) u v →
       Says (along L s g) T (up_of K) u v (role_of K)
   role_says e K {u} {v} p c = subst₂ (λ q k. Says (along L s g) T q u v k) (linked.ups e K p) (linked.roles e K p) (continues_says c)

@@ -1,22 +1,24 @@
 -- The laws of threads: where none are, what a new first triple leaves, and that a store elsewhere leaves them as they are.
-use Prim.Native.Nat.{ℕ, zero, suc, ◌+◌, ◌*◌, ◌/◌, ◌<◌, ◌≤◌, zero-le}
+use Prim.Native.Nat.{ℕ, suc, ◌+◌, ◌*◌, ◌/◌, ◌<◌, ◌≤◌, zero-le}
 use mathlib.Core.Path.{◌≡◌, refl, sym, ap, ◌∙◌}
-use mathlib.Core.Logic.{◌≢◌, ◌⊎◌, inl, inr}
+use mathlib.Core.Logic.{◌≢◌}
 use mathlib.Core.List.{List}
 use native.Mathlib.Omega.{arith}
 use native.Mathlib.Decide.{ℕ_discrete, dec_lt}
 use lib.ListN.{length, get_or, set, length-set}
 use lib.Seq.{get_or-set_same, get_or-set_other}
+use Rattle.std.specs.Prelude.{None, Some}
 use Rattle.meaning.specs.Limits.{terms, triples, records}
 use Rattle.meaning.specs.Site.{Triple}
 use Rattle.records.specs.Sites.{subject_part, predicate_part, object_part, term_at, Accepted, site_of}
-use Rattle.records.specs.Rules.{last_axis, axis_numbered}
+use Rattle.records.specs.declared.Axis.{Axis as CodeAxis}
+use Rattle.records.specs.declared.Axis.TheVariants as code
 use Rattle.records.proofs.SiteRecord.{Terms}
 use Rattle.records.proofs.Parts.{by_parts, triple_terms, triple_parts}
 use Rattle.records.proofs.Subjects.{accepted_rises}
 use Rattle.fewest.specs.Cells.{cells, nothing}
 use Rattle.fewest.specs.Work.{Has}
-use Rattle.fewest.specs.Threads.{subject_first, predicate_first, object_first, predicate_next, object_next, free, FirstWith, Firsts, Threaded, subject_of, predicate_of, object_of, ThreadsFrom, Threads, Blank, Headed, start_by, nexts_of, SubjectNext}
+use Rattle.fewest.specs.Threads.{subject_first, predicate_first, object_first, predicate_next, object_next, free, FirstWith, Firsts, Threaded, subject_of, predicate_of, object_of, ThreadsFrom, Threads, Blank, Headed, start_by, firsts_of, nexts_of, SubjectNext}
 use Rattle.fewest.proofs.Decoded.{cells_long}
 
 -- the threads stand in the table, and a cell can hold each triple's number and one that is none
@@ -160,32 +162,14 @@ threads_one b X Y {C} {D} {n} {k} {s} {p} {o} good h long read subject predicate
           (rw subject (threaded_set (cells X) (subject_first + s) k (λ t l e. omega arith) (λ j l e. omega arith) old.objects)));
     }
 
--- The threads that an axis starts along: the subjects', by two axes.
-pub along_subjects : (b X : List ℕ) {n axis : ℕ} → (axis ≡ 1) ⊎ (axis ≡ 3) → Threads b n X →
-    Firsts (start_by axis (site_of b n)) n subject_first (cells X) 0
-unfolding axis_numbered
-along_subjects b X (inl e) threads = rw e threads.subjects
-along_subjects b X (inr e) threads = rw e threads.subjects
-
--- The objects', by two.
-pub along_objects : (b X : List ℕ) {n axis : ℕ} → (axis ≡ 2) ⊎ (axis ≡ 6) → Threads b n X →
-    Threaded (start_by axis (site_of b n)) n object_first object_next (cells X) 0
-unfolding axis_numbered
-along_objects b X (inl e) threads = rw e threads.objects
-along_objects b X (inr e) threads = rw e threads.objects
-
--- The predicates', by the other two that take triples.
-pub along_predicates : (b X : List ℕ) {n : ℕ} (axis : ℕ) → axis ≢ 0 → axis ≤ last_axis → axis ≢ 1 → axis ≢ 3 → axis ≢ 2 → axis ≢ 6 → Threads b n X →
-    Threaded (start_by axis (site_of b n)) n predicate_first predicate_next (cells X) 0
-unfolding axis_numbered
-along_predicates b X zero moving known a d c f threads = absurd (moving refl)
-along_predicates b X (suc zero) moving known a d c f threads = absurd (a refl)
-along_predicates b X (suc (suc zero)) moving known a d c f threads = absurd (c refl)
-along_predicates b X (suc (suc (suc zero))) moving known a d c f threads = absurd (d refl)
-along_predicates b X (suc (suc (suc (suc zero)))) moving known a d c f threads = threads.predicates
-along_predicates b X (suc (suc (suc (suc (suc zero))))) moving known a d c f threads = threads.predicates
-along_predicates b X (suc (suc (suc (suc (suc (suc zero)))))) moving known a d c f threads = absurd (f refl)
-along_predicates b X (suc (suc (suc (suc (suc (suc (suc z))))))) moving known a d c f threads = absurd (omega arith)
+-- The first triples of the threads that an axis starts along.
+pub along_firsts : (b X : List ℕ) {n : ℕ} (axis : CodeAxis) → Threads b n X → Firsts (start_by axis (site_of b n)) n (firsts_of axis) (cells X) 0
+along_firsts b X code.Next threads = threads.subjects
+along_firsts b X code.NextInverse threads = threads.objects.first
+along_firsts b X code.Edge threads = threads.subjects
+along_firsts b X code.EdgeInverse threads = threads.predicates.first
+along_firsts b X code.Node threads = threads.predicates.first
+along_firsts b X code.NodeInverse threads = threads.objects.first
 
 -- What stands in a term's cell is its first triple.
 pub read_first : (C : List ℕ) (at_first : ℕ) {key : ℕ → ℕ} {n t p r : ℕ} → Firsts key n at_first C 0 → t < terms →
@@ -215,43 +199,36 @@ module _ (b : List ℕ) {n : ℕ} (good : Accepted b n) (t k : ℕ) where
   }
 
   -- Where the triple after has another, or there is none, no later one has it: the subjects never fall.
-  pub subject_last : {r : ℕ} → k < n → (k + 1 < n → (r ≡ term_at b (k + 1) subject_part) × (r ≢ t)) → SubjectNext b n t k n
+  pub subject_last : k < n → (k + 1 < n → term_at b (k + 1) subject_part ≢ t) → SubjectNext b n t k n
   subject_last here other = record {
     later = here;
     next = λ own. record {
       own = λ l. absurd (omega arith);
       least = λ i l m e.
           let h : k + 1 < n = omega arith in
-          let (read, apart) = other h in
           let up = accepted_rises good k (k + 1) (omega arith) h in
           let on = accepted_rises good (k + 1) i (omega arith) m in
-          let same = read_subject h read in
-          absurd (apart (omega arith));
+          let same = read_subject h refl in
+          absurd (other h (omega arith));
     };
   }
 
--- An axis that takes triples starts at the subject where the site's order tells.
-pub along_order : (b : List ℕ) {n t k j : ℕ} (axis : ℕ) → axis ≢ 0 → axis ≤ last_axis → nexts_of axis ≡ 0 → SubjectNext b n t k j →
+-- An axis starts at the subject where the site's order tells the next triples.
+pub along_order : (b : List ℕ) {n t k j : ℕ} (axis : CodeAxis) → nexts_of axis ≡ None → SubjectNext b n t k j →
     start_by axis (site_of b n) k ≡ t → FirstWith (start_by axis (site_of b n)) n t (suc k) j
-unfolding axis_numbered nexts_of terms triples
-along_order b zero moving known order by own = absurd (moving refl)
-along_order b (suc zero) moving known order by own = by.next own
-along_order b (suc (suc zero)) moving known order by own = absurd (omega arith)
-along_order b (suc (suc (suc zero))) moving known order by own = by.next own
-along_order b (suc (suc (suc (suc zero)))) moving known order by own = absurd (omega arith)
-along_order b (suc (suc (suc (suc (suc zero))))) moving known order by own = absurd (omega arith)
-along_order b (suc (suc (suc (suc (suc (suc zero)))))) moving known order by own = absurd (omega arith)
-along_order b (suc (suc (suc (suc (suc (suc (suc z))))))) moving known order by own = absurd (omega arith)
+along_order b code.Next order by own = by.next own
+along_order b code.NextInverse order by own = absurd cc
+along_order b code.Edge order by own = by.next own
+along_order b code.EdgeInverse order by own = absurd cc
+along_order b code.Node order by own = absurd cc
+along_order b code.NodeInverse order by own = absurd cc
 
 -- Elsewhere it starts along threads, and the next triples stand there.
-pub along_threads : (b X : List ℕ) {n : ℕ} (axis : ℕ) → axis ≢ 0 → axis ≤ last_axis → nexts_of axis ≢ 0 → Threads b n X →
-    (at_first : ℕ) × Threaded (start_by axis (site_of b n)) n at_first (nexts_of axis) (cells X) 0
-unfolding axis_numbered nexts_of
-along_threads b X zero moving known apart threads = absurd (moving refl)
-along_threads b X (suc zero) moving known apart threads = absurd (apart refl)
-along_threads b X (suc (suc zero)) moving known apart threads = (object_first, threads.objects)
-along_threads b X (suc (suc (suc zero))) moving known apart threads = absurd (apart refl)
-along_threads b X (suc (suc (suc (suc zero)))) moving known apart threads = (predicate_first, threads.predicates)
-along_threads b X (suc (suc (suc (suc (suc zero))))) moving known apart threads = (predicate_first, threads.predicates)
-along_threads b X (suc (suc (suc (suc (suc (suc zero)))))) moving known apart threads = (object_first, threads.objects)
-along_threads b X (suc (suc (suc (suc (suc (suc (suc z))))))) moving known apart threads = absurd (omega arith)
+pub along_threads : (b X : List ℕ) {n i : ℕ} (axis : CodeAxis) → nexts_of axis ≡ Some i → Threads b n X →
+    (at_first : ℕ) × Threaded (start_by axis (site_of b n)) n at_first i (cells X) 0
+along_threads b X {i = i} code.Next at threads = absurd cc
+along_threads b X {i = i} code.NextInverse at threads = let e : object_next ≡ i = cc in (object_first, rw (← e) threads.objects)
+along_threads b X {i = i} code.Edge at threads = absurd cc
+along_threads b X {i = i} code.EdgeInverse at threads = let e : predicate_next ≡ i = cc in (predicate_first, rw (← e) threads.predicates)
+along_threads b X {i = i} code.Node at threads = let e : predicate_next ≡ i = cc in (predicate_first, rw (← e) threads.predicates)
+along_threads b X {i = i} code.NodeInverse at threads = let e : object_next ≡ i = cc in (object_first, rw (← e) threads.objects)

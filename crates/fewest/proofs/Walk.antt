@@ -2,7 +2,7 @@
 -- numbers passed, or may follow the record that the walk has reached. It ends where one number alone may follow.
 use Prim.Native.Nat.{ℕ, ◌-◌, ◌<◌, ◌≤◌, min}
 use mathlib.Core.Path.{◌≡◌, refl}
-use mathlib.Core.Logic.{◌⊎◌, inl, inr, ⊎_elim, ◌≢◌}
+use mathlib.Core.Logic.{◌⊎◌, inl, inr, ⊎_elim}
 use mathlib.Core.List.{List}
 use native.Mathlib.Omega.{arith}
 use lib.ListN.{get_or}
@@ -62,14 +62,12 @@ module _ {up role : List ℕ} {g : Goal} {T : List ℕ} where
         Least up role g T r u (min best (view T (get_or up at 0 - 1) u))
     walk_first q h = ends as_first q h (λ s. refl) (λ s w e. e)
 
-    -- One star up, where the role is none of these: its operand may run again.
-    pub walk_up : Climbs records up role → get_or role at 0 ≢ as_whole → get_or role at 0 ≢ as_test → get_or role at 0 ≢ as_first →
+    -- One star up: its operand may run again.
+    pub walk_up : Climbs records up role → get_or role at 0 ≡ as_round →
         Walked up role g T r u (get_or up at 0) (min best (view T (get_or up at 0 - 1) u))
-    walk_up climbs a b c =
-        let k = climbs.known at walk.inside in
-        let q : get_or role at 0 ≡ as_round = omega arith in
+    walk_up climbs q =
         let round = view T (get_or up at 0 - 1) u in record {
-          inside = (climbs.higher at walk.inside a).1;
+          inside = (climbs.higher at walk.inside (λ e. omega arith)).1;
           top = let t = walk.top in omega arith;
           among = ⊎_elim (λ e. rw e walk.among) (λ e. inr (λ s. rw e (walk.onward s round (again q)))) (min_either best round);
           onward = λ s w c. walk.onward s w (ending q c);

@@ -10,7 +10,7 @@ use lib.Dec.{ltb}
 use borrow.Author.Tests.{ltb-true, ltb-false}
 use Rattle.meaning.specs.Site.{Triple, Site, triple, Voc}
 use Rattle.records.specs.Sites.{site_of}
-use Rattle.records.specs.Rules.{axis_numbered}
+use Rattle.records.specs.declared.Axis.TheVariants as code
 use Rattle.records.proofs.Sites.{length-site_of}
 use Rattle.fewest.specs.Threads.{FirstWith, start_by}
 use Rattle.fewest.specs.Tells.{Tells, holds, fails}
@@ -36,21 +36,19 @@ thread_tells key b {n} {t} {first} found = go (ltb first n) refl
         let least = found.least k zero-le below (sym same) in
         omega arith
 
--- Axis 1 starts at the subject, and axis 2 at the object.
-pub subject_tells : (b : List ℕ) {n t first : ℕ} → FirstWith (start_by 1 (site_of b n)) n t 0 first →
+-- Next starts at the subject, and its inverse at the object.
+pub subject_tells : (b : List ℕ) {n t first : ℕ} → FirstWith (start_by code.Next (site_of b n)) n t 0 first →
     Tells (StandsAs (λ x. x.subject) (site_of b n) t) (ltb first n)
-unfolding axis_numbered
 subject_tells b = thread_tells (λ x. x.subject) b
 
-pub object_tells : (b : List ℕ) {n t first : ℕ} → FirstWith (start_by 2 (site_of b n)) n t 0 first →
+pub object_tells : (b : List ℕ) {n t first : ℕ} → FirstWith (start_by code.NextInverse (site_of b n)) n t 0 first →
     Tells (StandsAs (λ x. x.object) (site_of b n) t) (ltb first n)
-unfolding axis_numbered
 object_tells b = thread_tells (λ x. x.object) b
 
 -- A word is a subject or an object.
 module _ {s : Site} {t : ℕ} {first : Bool} (tells : Tells (StandsAs (λ x. x.subject) s t) first) where
-  pub word_subject : first ≡ true → Tells (Voc s t) true
-  word_subject e = let x = told tells e in holds (record { number = x.number; below = x.below; stands = inl x.stands })
+  pub word_subject : first ≡ true → Tells (Voc s t) first
+  word_subject e = let x = told tells e in rw e (holds (record { number = x.number; below = x.below; stands = inl x.stands }))
 
   pub word_object : {second : Bool} → first ≡ false → Tells (StandsAs (λ x. x.object) s t) second → Tells (Voc s t) second
   word_object e (holds x) = holds (record { number = x.number; below = x.below; stands = inr x.stands })

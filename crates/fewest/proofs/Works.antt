@@ -1,4 +1,4 @@
--- The work of a record, read off the arrays, is the work of the subexpression that it names; and what that work offers
+-- The work of a record, read off the lists, is the work of the subexpression that it names; and what that work offers
 -- in a sound table has its way.
 use Prim.Native.Nat.{ℕ, ◌<◌}
 use mathlib.Core.Path.{◌≡◌, refl, subst}

@@ -1,11 +1,10 @@
 -- What the loops over a table know of the rule: for each record where its expression stands, by number.
--- `Linked` says that the three arrays are the rule's own.
+-- `Linked` says that the three lists are the rule's own.
 use Rattle.std.specs.Prelude.{ℕ, ◌<◌, ◌≤◌, ◌≡◌, ◌≢◌, List, get_or}
 use Rattle.meaning.specs.Limits.{records}
 use Rattle.meaning.specs.Site.{Site}
 use Rattle.meaning.specs.Expression.{Expr, sequence, choice, last, Context, whole, test, first_of, second_of, one_of, other_of, round_of, plug}
 use Rattle.meaning.specs.Fewest.{Goal}
-pub use Rattle.fewest.specs.declared.links.Links.{Links}
 
 -- how an expression stands: as the whole rule, as a test, as the first of a sequence, as the round of a star
 abbrev pub as_whole : ℕ
@@ -40,7 +39,12 @@ up_of (one_of r b K) = up_of K
 up_of (other_of r a K) = up_of K
 up_of (round_of r K) = r
 
--- the three arrays: the role of each record and the record below which it has it, and the first operand's record of each join
+-- the role of each record and the record below which it has it, and the first operand's record of each join
+pub record Links : Type 0 where
+  pub up : List ℕ
+  pub role : List ℕ
+  pub first : List ℕ
+
 abbrev pub links : List ℕ → List ℕ → List ℕ → Links
 links up role first = record { up = up; role = role; first = first }
 

@@ -2,6 +2,7 @@
 pub mod Pairs
 pub mod Cells
 pub mod Frame
+pub mod Links
 pub mod LinksOf
 pub mod Next
 pub mod Offer
@@ -15,3 +16,5 @@ pub mod Threads
 pub mod Tells
 pub mod Words
 pub mod Kept
+pub mod Once
+pub mod Tasks

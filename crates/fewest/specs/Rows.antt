@@ -1,15 +1,15 @@
 -- What looks that store nothing tell: of one row against another, of a row against what may follow a record's expression, and of the
 -- triples of a step against a row. With them a row is quiet, and nothing is swept.
-use Rattle.std.specs.Prelude.{ℕ, ◌+◌, ◌-◌, ◌<◌, ◌≤◌, ◌≡◌, ◌≢◌, true, List}
+use Rattle.std.specs.Prelude.{ℕ, ◌+◌, ◌-◌, ◌<◌, ◌≤◌, ◌≡◌, true, List}
 use Rattle.meaning.specs.Limits.{terms}
 use Rattle.meaning.specs.Site.{Site}
 use Rattle.meaning.specs.Move.{Axis, Move, any}
 use Rattle.meaning.specs.Left.{home_left}
 use Rattle.meaning.specs.Fewest.{Goal}
+use Rattle.records.specs.declared.Axis.{Axis as CodeAxis}
 use Rattle.records.specs.declared.Label.{Label}
-use Rattle.records.specs.declared.Step.{Step}
 use Rattle.records.specs.Sites.{Accepted, site_of}
-use Rattle.records.specs.Rules.{last_axis, axis_numbered}
+use Rattle.records.specs.Rules.{axis_of}
 use Rattle.fewest.specs.declared.look.Parts.{Parts}
 use Rattle.fewest.specs.Frame.{frame}
 use Rattle.fewest.specs.Offer.{view, Continues, copying, resting, Quiet}
@@ -36,19 +36,18 @@ pub record Reaches (T : List ℕ) (b r t u : ℕ) : Type 0 where
 abbrev pub KeptBy : Site → Axis → Label → ℕ → ℕ → ℕ → List ℕ → Type 0
 KeptBy s a l b r k T = (t m u : ℕ) → Move s a any k t m u → allowing T l r m ≡ true → Reaches T b r t u
 
--- so for triple k of a site, by any axis that takes triples and takes them so
+-- so for triple k of a site, by any axis that takes it so
 abbrev pub Keeps : List ℕ → ℕ → Parts → Label → ℕ → ℕ → List ℕ → Type 0
 Keeps bytes k p l b r T =
-    (n a : ℕ) → Accepted bytes n → k < n → p ≡ parts_of a → a ≢ 0 → a ≤ last_axis → KeptBy (site_of bytes n) (axis_numbered a) l b r k T
+    (n : ℕ) (a : CodeAxis) → Accepted bytes n → k < n → p ≡ parts_of a → KeptBy (site_of bytes n) (axis_of a) l b r k T
 
--- and for each triple, by the step's own axis
-abbrev pub KeepsAll : List ℕ → ℕ → Step → ℕ → ℕ → List ℕ → Type 0
-KeepsAll bytes n x b r T = (k : ℕ) → k < n → Keeps bytes k (parts_of x.axis) x.label b r T
+-- and for each triple, by this axis
+abbrev pub KeepsAll : List ℕ → ℕ → CodeAxis → Label → ℕ → ℕ → List ℕ → Type 0
+KeepsAll bytes n a l b r T = (k : ℕ) → k < n → Keeps bytes k (parts_of a) l b r T
 
--- nothing that a step of record r offers is lower, if its axis takes triples
-abbrev pub StepQuiet : List ℕ → ℕ → Step → List ℕ → List ℕ → Goal → ℕ → List ℕ → Type 0
-StepQuiet bytes n x up role g r T =
-    x.axis ≢ 0 → x.axis ≤ last_axis → Quiet (frame (site_of bytes n) up role g) (work_of (axis_numbered x.axis) x.label) r T
+-- nothing that a step of record r with this axis and label offers is lower
+abbrev pub StepQuiet : List ℕ → ℕ → CodeAxis → Label → List ℕ → List ℕ → Goal → ℕ → List ℕ → Type 0
+StepQuiet bytes n a l up role g r T = Quiet (frame (site_of bytes n) up role g) (work_of (axis_of a) l) r T
 
 -- nothing that the star of record r offers is lower, neither its round nor passing empty
 abbrev pub StarQuiet : List ℕ → List ℕ → Goal → ℕ → List ℕ → Type 0

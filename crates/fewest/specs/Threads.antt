@@ -1,11 +1,13 @@
 -- The triples threaded by their terms, in cells: for each term its first triple, for each triple the next with the same predicate
 -- and object. By subject the next is the triple after. Who goes from the first to the next meets every triple of the term, in order.
-use Rattle.std.specs.Prelude.{ℕ, suc, ◌+◌, ◌<◌, ◌≤◌, ◌≡◌, ◌≢◌, cond, List, length, get_or, set, eqb}
+use Rattle.std.specs.Prelude.{ℕ, suc, ◌+◌, ◌<◌, ◌≤◌, ◌≡◌, List, length, get_or, set, Option, Some, None}
 use Rattle.meaning.specs.Limits.{terms, triples}
 use Rattle.meaning.specs.Site.{Triple, Site, triple}
 use Rattle.meaning.specs.Move.{start, finish, middle, Axis, self, ahead, inverse}
+use Rattle.records.specs.declared.Axis.{Axis as CodeAxis}
+use Rattle.records.specs.declared.Axis.TheVariants as code
 use Rattle.records.specs.Sites.{Accepted, site_of}
-use Rattle.records.specs.Rules.{last_axis, axis_numbered}
+use Rattle.records.specs.Rules.{axis_of}
 use Rattle.fewest.specs.Cells.{cells, nothing}
 
 -- where the first triples stand, by subject, by predicate and by object, and where the next ones do; what is behind them is free
@@ -78,28 +80,36 @@ start_along self x = x.subject
 start_along (ahead d) x = start d x
 start_along (inverse d) x = finish d x
 
--- where triple j starts by the axis with this number
-abbrev pub start_by : ℕ → Site → ℕ → ℕ
-start_by axis s j = start_along (axis_numbered axis) (triple s j)
+-- where triple j starts by the code's axis
+abbrev pub start_by : CodeAxis → Site → ℕ → ℕ
+start_by axis s j = start_along (axis_of axis) (triple s j)
 
--- by threads the first triple that starts at t, along an axis that takes triples
-abbrev pub ThreadFirst : List ℕ → (axis t j : ℕ) → Type 0
-ThreadFirst X axis t j =
-    (b : List ℕ) (n : ℕ) → Threads b n X → axis ≢ 0 → axis ≤ last_axis → t < terms → FirstWith (start_by axis (site_of b n)) n t 0 j
+-- by threads the first triple that starts at t, along an axis
+abbrev pub ThreadFirst : List ℕ → CodeAxis → (t j : ℕ) → Type 0
+ThreadFirst X axis t j = (b : List ℕ) (n : ℕ) → Threads b n X → t < terms → FirstWith (start_by axis (site_of b n)) n t 0 j
 
--- where the next triples of an axis's threads stand; 0 where the site's order tells
-unfoldable pub nexts_of : ℕ → ℕ
-nexts_of a =
-    cond (eqb a 1) 0
-    (cond (eqb a 3) 0
-    (cond (eqb a 2) object_next
-    (cond (eqb a 6) object_next
-    predicate_next)))
+-- where the first triples of an axis's threads stand
+abbrev pub firsts_of : CodeAxis → ℕ
+firsts_of code.Next = subject_first
+firsts_of code.NextInverse = object_first
+firsts_of code.Edge = subject_first
+firsts_of code.EdgeInverse = predicate_first
+firsts_of code.Node = predicate_first
+firsts_of code.NodeInverse = object_first
+
+-- and the next ones; nowhere, if the site's order tells them
+abbrev pub nexts_of : CodeAxis → Option ℕ
+nexts_of code.Next = None
+nexts_of code.NextInverse = Some object_next
+nexts_of code.Edge = None
+nexts_of code.EdgeInverse = Some predicate_next
+nexts_of code.Node = Some predicate_next
+nexts_of code.NodeInverse = Some object_next
 
 -- a later triple than k; by threads the next that starts at t, where k does, along an axis whose next triples stand there
-pub record ThreadNext (b : List ℕ) (n : ℕ) (X : List ℕ) (by t k j : ℕ) : Type 0 where
+pub record ThreadNext (b : List ℕ) (n : ℕ) (X : List ℕ) (by : Option ℕ) (t k j : ℕ) : Type 0 where
   pub later : k < j
-  pub next : (axis : ℕ) → by ≡ nexts_of axis → Threads b n X → axis ≢ 0 → axis ≤ last_axis → start_by axis (site_of b n) k ≡ t →
+  pub next : (axis : CodeAxis) → by ≡ nexts_of axis → Threads b n X → start_by axis (site_of b n) k ≡ t →
       FirstWith (start_by axis (site_of b n)) n t (suc k) j
 
 -- a later triple than k; the next with subject t, where k has it
@@ -119,15 +129,13 @@ finish_along self x = x.subject
 finish_along (ahead d) x = finish d x
 finish_along (inverse d) x = start d x
 
--- an axis that takes triples and starts at this place of each
-pub record StartsAt (place : Triple → ℕ) (by : ℕ) : Type 0 where
-  pub moving : by ≢ 0
-  pub known : by ≤ last_axis
-  pub starts : (x : Triple) → start_along (axis_numbered by) x ≡ place x
+-- an axis that starts at this place of each triple
+abbrev pub StartsAt : (Triple → ℕ) → CodeAxis → Type 0
+StartsAt place by = (x : Triple) → start_along (axis_of by) x ≡ place x
 
 -- where another has its middle, and where another ends
-abbrev pub AtMiddle : Axis → ℕ → Type 0
+abbrev pub AtMiddle : Axis → CodeAxis → Type 0
 AtMiddle a by = StartsAt (middle_along a) by
 
-abbrev pub AtFinish : Axis → ℕ → Type 0
+abbrev pub AtFinish : Axis → CodeAxis → Type 0
 AtFinish a by = StartsAt (finish_along a) by

@@ -8,13 +8,15 @@ use Rattle.meaning.specs.Move.{Axis, self, Move, any, only}
 use Rattle.meaning.specs.Expression.{starring}
 use Rattle.meaning.specs.Fewest.{end, anywhere}
 use Rattle.meaning.specs.Fewest as meaning
+use Rattle.records.specs.declared.Axis.{Axis as CodeAxis}
+use Rattle.records.specs.declared.Axis.TheVariants as code
 use Rattle.records.specs.declared.Label.{Label}
 use Rattle.records.specs.declared.Label.TheVariants.{Any, Term, Test}
 use Rattle.records.specs.declared.Step.{Step}
 use Rattle.records.specs.declared.Record.{Record}
 use Rattle.records.specs.declared.Record.TheVariants as kind
 use Rattle.records.specs.Sites.{subject_part, predicate_part, object_part, term_at, Accepted, site_of}
-use Rattle.records.specs.Rules.{last_axis, axis_numbered, rec_of, record_at, rec_at, records_of}
+use Rattle.records.specs.Rules.{axis_of, axis_meant, rec_of, record_at, rec_at, records_of}
 use Rattle.fewest.specs.declared.Goal.{Goal}
 use Rattle.fewest.specs.declared.Goal.TheVariants.{End, Anywhere}
 use Rattle.fewest.specs.declared.look.Moved.{Moved}
@@ -47,19 +49,18 @@ allowing T Any r m = true
 allowing T (Term n) r m = eqb m n
 allowing T Test r m = ltb (view T (r - 1) m) none
 
--- where the terms stand in a triple's record, as the axis with this number takes them
-unfoldable pub parts_of : ℕ → Parts
-parts_of a =
-    cond (eqb a 1) (record { from = subject_part; middle = predicate_part; to = object_part })
-    (cond (eqb a 2) (record { from = object_part; middle = predicate_part; to = subject_part })
-    (cond (eqb a 3) (record { from = subject_part; middle = object_part; to = predicate_part })
-    (cond (eqb a 4) (record { from = predicate_part; middle = object_part; to = subject_part })
-    (cond (eqb a 5) (record { from = predicate_part; middle = subject_part; to = object_part })
-    (record { from = object_part; middle = subject_part; to = predicate_part })))))
+-- where the terms stand in a triple's record, as an axis takes them
+abbrev pub parts_of : CodeAxis → Parts
+parts_of code.Next = record { from = subject_part; middle = predicate_part; to = object_part }
+parts_of code.NextInverse = record { from = object_part; middle = predicate_part; to = subject_part }
+parts_of code.Edge = record { from = subject_part; middle = object_part; to = predicate_part }
+parts_of code.EdgeInverse = record { from = predicate_part; middle = object_part; to = subject_part }
+parts_of code.Node = record { from = predicate_part; middle = subject_part; to = object_part }
+parts_of code.NodeInverse = record { from = object_part; middle = subject_part; to = predicate_part }
 
 -- an axis takes them so
 abbrev pub Axial : Parts → Type 0
-Axial p = (a : ℕ) × (p ≡ parts_of a)
+Axial p = (a : CodeAxis) × (p ≡ parts_of a)
 
 -- triple number k from a term to a term, past a middle, where they stand so
 unfoldable pub moved_at : List ℕ → ℕ → Parts → Moved
@@ -95,11 +96,11 @@ Has b k = (n : ℕ) × Accepted b n × (k < n)
 abbrev pub QuietBy : Frame → Axis → Label → ℕ → ℕ → List ℕ → Type 0
 QuietBy F a l r k T = (t m u v : ℕ) → Move F.site a any k t m u → allowing T l r m ≡ true → Continues F T r u v → view T r t ≤ v + 1
 
--- a look at triple k for a step of record r with this label, by any axis that takes triples and takes them so
+-- a look at triple k for a step of record r with this label, by any axis that takes it so
 abbrev pub Looked : List ℕ → ℕ → Parts → Label → List ℕ → List ℕ → meaning.Goal → ℕ → List ℕ → List ℕ → Bool → Bool → Type 0
 Looked b k p l up role g r T T' was now =
-    (n a : ℕ) → Accepted b n → k < n → p ≡ parts_of a → a ≢ 0 → a ≤ last_axis →
-    Looks (frame (site_of b n) up role g) (work_of (axis_numbered a) l) r (QuietBy (frame (site_of b n) up role g) (axis_numbered a) l r k) T T' was now
+    (n : ℕ) (a : CodeAxis) → Accepted b n → k < n → p ≡ parts_of a →
+    Looks (frame (site_of b n) up role g) (work_of (axis_of a) l) r (QuietBy (frame (site_of b n) up role g) (axis_of a) l r k) T T' was now
 
 -- where one may stay: at a vocabulary term; at a named term, where the step is named
 pub data MayRest (s : meant.Site) : Label → ℕ → ℕ → Type 0 where
@@ -127,9 +128,12 @@ abbrev pub RestsSwept : List ℕ → ℕ → List ℕ → List ℕ → meaning.G
 RestsSwept b n up role g l cost r T T' was now =
     Nameless l → (cost ≡ 0 → l ≡ Any) → WorkSwept (frame (site_of b n) up role g) (staying cost l) r T T' was now
 
-abbrev pub AxisSwept : List ℕ → ℕ → Step → List ℕ → List ℕ → meaning.Goal → ℕ → List ℕ → List ℕ → Bool → Bool → Type 0
-AxisSwept b n x up role g r T T' was now =
-    x.axis ≢ 0 → x.axis ≤ last_axis → WorkSwept (frame (site_of b n) up role g) (work_of (axis_numbered x.axis) x.label) r T T' was now
+abbrev pub AxisSwept : List ℕ → ℕ → CodeAxis → Label → List ℕ → List ℕ → meaning.Goal → ℕ → List ℕ → List ℕ → Bool → Bool → Type 0
+AxisSwept b n a l up role g r T T' was now = WorkSwept (frame (site_of b n) up role g) (work_of (axis_of a) l) r T T' was now
+
+-- a self step was looked at wherever it may stay
+abbrev pub SelfSwept : List ℕ → ℕ → Label → List ℕ → List ℕ → meaning.Goal → ℕ → List ℕ → List ℕ → Bool → Bool → Type 0
+SelfSwept b n l up role g r T T' was now = WorkSwept (frame (site_of b n) up role g) (work_of self l) r T T' was now
 
 -- record r finishes the rule, and at v alone, if that is a term
 abbrev pub OnlyEnd : List ℕ → meaning.Goal → ℕ → ℕ → Type 0
@@ -141,19 +145,17 @@ Others b n place term up role g a l r T =
     (i : ℕ) → place (meant.triple (site_of b n) i) ≢ term → QuietBy (frame (site_of b n) up role g) a l r i T
 
 -- the triples of a thread were looked at: by threads of the site, all that may offer something
-pub record ThreadSwept (b : List ℕ) (n : ℕ) (X : List ℕ) (x : Step) (by term : ℕ) (up role : List ℕ) (g : meaning.Goal) (r : ℕ) (T T' : List ℕ) (was now : Bool) : Type 0 where
-  pub reached : x.axis ≢ 0 → x.axis ≤ last_axis → Lowers (frame (site_of b n) up role g) (work_of (axis_numbered x.axis) x.label) r T T'
-  pub swept : x.axis ≢ 0 → x.axis ≤ last_axis → Threads b n X → (place : meant.Triple → ℕ) → StartsAt place by →
-      Others b n place term up role g (axis_numbered x.axis) x.label r T →
-      WorkSwept (frame (site_of b n) up role g) (work_of (axis_numbered x.axis) x.label) r T T' was now
+pub record ThreadSwept (b : List ℕ) (n : ℕ) (X : List ℕ) (a : CodeAxis) (l : Label) (by : CodeAxis) (term : ℕ) (up role : List ℕ) (g : meaning.Goal) (r : ℕ) (T T' : List ℕ) (was now : Bool) : Type 0 where
+  pub reached : Lowers (frame (site_of b n) up role g) (work_of (axis_of a) l) r T T'
+  pub swept : Threads b n X → (place : meant.Triple → ℕ) → StartsAt place by → Others b n place term up role g (axis_of a) l r T →
+      WorkSwept (frame (site_of b n) up role g) (work_of (axis_of a) l) r T T' was now
 
 abbrev pub StepSwept : List ℕ → ℕ → Step → List ℕ → List ℕ → meaning.Goal → ℕ → List ℕ → List ℕ → Bool → Bool → Type 0
-StepSwept b n x up role g r T T' was now =
-    x.axis ≤ last_axis → WorkSwept (frame (site_of b n) up role g) (work_of (axis_numbered x.axis) x.label) r T T' was now
+StepSwept b n x up role g r T T' was now = WorkSwept (frame (site_of b n) up role g) (work_of (axis_meant x.axis) x.label) r T T' was now
 
 -- a record that record number r may be: its label sits there, and what it takes stands before it
 abbrev pub Sits : Record → ℕ → Type 0
-Sits (kind.Step x) r = (x.axis ≤ last_axis) × Tests x.label r
+Sits (kind.Step x) r = Tests x.label r
 Sits kind.Sequence r = Unit
 Sits kind.Choice r = 0 < r
 Sits kind.Star r = 0 < r

@@ -5,7 +5,6 @@ ghost use Rattle.fewest.specs.Cells.{values, cells};
 ghost use Rattle.fewest.specs.Threads.{free};
 ghost use Rattle.fewest.specs.Kept.{Kept};
 
-use crate::pairs::wide;
 use records::bytes::BASE;
 
 // A cell's value is below this; a cell that names nothing has the greatest.
@@ -18,7 +17,7 @@ pub fn cell(scratch: &[u8], i: usize) -> usize
     if scratch.len() / 2 <= i {
         return 0;
     }
-    wide(scratch[i + i + 1]) * BASE + wide(scratch[i + i])
+    usize::from(u16::from_le_bytes([scratch[i + i], scratch[i + i + 1]]))
 }
 
 // The cell takes a value.
@@ -26,8 +25,9 @@ pub fn put_cell(scratch: &mut [u8], i: usize, v: usize)
     requires { (i + i + 1 < length scratch.old) × (v < values) }
     ensures { cells scratch.new ≡ set (cells scratch.old) i v }
 {
-    scratch[i + i] = (v % BASE) as u8;
-    scratch[i + i + 1] = (v / BASE) as u8;
+    let [low, high] = (v as u16).to_le_bytes();
+    scratch[i + i] = low;
+    scratch[i + i + 1] = high;
 }
 
 // The cell, which is behind the threads, takes a set of 16 bits.
@@ -49,10 +49,8 @@ pub fn put_sets(scratch: &mut [u8], from: usize, to: usize, set: usize)
     if scratch.len() / 2 < to {
         return;
     }
-    let mut i = from;
-    while i < to {
+    for i in from..to {
         put_set(scratch, i, set);
-        i += 1;
     }
 }
 
@@ -61,7 +59,7 @@ pub fn byte_at(scratch: &[u8], i: usize) -> usize {
     if scratch.len() <= i {
         return 0;
     }
-    wide(scratch[i])
+    usize::from(scratch[i])
 }
 
 // The byte, which is behind the threads, takes a value.

@@ -3,14 +3,13 @@ ghost use Rattle.std.specs.Prelude.{◌≡◌, ◌<◌, min};
 ghost use Rattle.meaning.specs.Limits.{terms, records};
 ghost use Rattle.meaning.specs.Left.{home_left};
 ghost use Rattle.fewest.specs.Pairs.{pairs};
-ghost use Rattle.fewest.specs.Frame.{Climbs};
-ghost use Rattle.fewest.specs.Table.{Full};
 ghost use Rattle.fewest.specs.Work.{goal_of, Least};
 
 use crate::Goal;
-use crate::links::{AS_FIRST, AS_TEST, AS_WHOLE};
-use crate::table::number;
-use records::{NONE, RECORDS};
+use crate::links::Role;
+use crate::table::{NUMBERS, number};
+use crate::task::Ahead;
+use records::NONE;
 
 fn least(a: usize, b: usize) -> usize
     ensures { result ≡ min a b }
@@ -30,32 +29,22 @@ fn home(goal: Goal, u: usize) -> usize
 
 // The least number that may follow once record r's expression is finished at u. The second of a sequence and the operand of a
 // star are the record before it: so the number that is read is that of the second, or of the round once more.
-pub fn left<'a>(
-    numbers: &[u8],
-    up: &'a [u8; RECORDS],
-    role: &'a [u8; RECORDS],
-    goal: Goal,
-    r: usize,
-    u: usize,
-) -> usize
-    requires { Full numbers.now × Climbs records up.now role.now × (r < records) × (u < terms) }
-    ensures { Least up.now role.now (goal_of goal) (pairs numbers.now) r u result }
+pub fn left(ahead: &Ahead, numbers: &[u8; NUMBERS], r: usize, u: usize) -> usize
+    requires { (r < records) × (u < terms) }
+    ensures { Least ahead.now.links.now.up ahead.now.links.now.role (goal_of ahead.now.goal) (pairs numbers.now) r u result }
 {
     let mut best = NONE;
     let mut at = r;
     loop {
-        let stands = role[at];
-        if stands == AS_WHOLE {
-            return least(best, home(goal, u));
+        let above = ahead.links.above(at);
+        match ahead.links.role(at) {
+            Role::Whole => return least(best, home(ahead.goal, u)),
+            Role::Test => return 0,
+            Role::First => return least(best, number(numbers, above - 1, u)),
+            Role::Round => {
+                best = least(best, number(numbers, above - 1, u));
+                at = above;
+            }
         }
-        if stands == AS_TEST {
-            return 0;
-        }
-        let above = up[at] as usize;
-        best = least(best, number(numbers, above - 1, u));
-        if stands == AS_FIRST {
-            return best;
-        }
-        at = above;
     }
 }

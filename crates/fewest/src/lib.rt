@@ -4,6 +4,7 @@
 
 pub mod pairs; // pairs.rt: numbers in byte pairs
 pub mod table; // table.rt: entries by record and term
+pub mod task; // task.rt: what the loops over the tables go by
 pub mod links; // links.rt: where each record's expression stands in the rule
 pub mod left; // left.rt: what is left once an expression is finished
 pub mod look; // look.rt: one look at one offer

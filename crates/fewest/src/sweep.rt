@@ -1,305 +1,252 @@
 // Sweeps over the table: row by row, record by record, until one changes nothing.
-ghost use Rattle.std.specs.Prelude.{◌≡◌, ℕ, ◌*◌, ◌<◌, List, replicate};
+ghost use Rattle.std.specs.Prelude.{◌≡◌, ℕ, ◌*◌, ◌<◌, List, IfSome, replicate};
 ghost use Rattle.meaning.specs.Limits.{terms, records, none};
 ghost use Rattle.records.specs.declared.Record.TheVariants.{Star};
-ghost use Rattle.records.specs.Sites.{Accepted};
 ghost use Rattle.fewest.specs.Pairs.{pairs};
-ghost use Rattle.fewest.specs.Frame.{Climbs};
-ghost use Rattle.fewest.specs.Table.{Full};
-ghost use Rattle.fewest.specs.Work.{goal_of, Tests, RowSwept, RestsSwept, AxisSwept, OnlyEnd, ThreadSwept, StepSwept, Sits, RecordSwept, Ready, SweptOver, SettledOver};
+ghost use Rattle.fewest.specs.Work.{goal_of, Tests, RowSwept, RestsSwept, AxisSwept, SelfSwept, OnlyEnd, ThreadSwept, StepSwept, Sits, RecordSwept};
 ghost use Rattle.fewest.specs.Threads.{Threads};
+ghost use Rattle.fewest.specs.Tasks.{ThreadsOf, SweptFor, SettledFor};
 
 use crate::Goal;
-use crate::links::AS_WHOLE;
+use crate::links::Role;
 use crate::look::{look, parts_of, rest};
 use crate::rows::{above, star_quiet, step_quiet};
-use crate::table::{lower, number};
+use crate::table::{NUMBERS, lower, number};
+use crate::task::{Ahead, Site, Task};
 use crate::threads::{by_middle, first_from, inverse, next_by, next_from};
 use crate::word::word;
 use records::rule::record_of;
-use records::{Label, RECORDS, Record, Step, TERMS};
+use records::{Axis, Label, Record, Step, TERMS};
 
 // Row r is lowered to row a, place by place, if it is above it anywhere.
-fn sweep_row(numbers: &mut [u8], r: usize, a: usize, was: bool) -> bool
-    requires { Full numbers.old × (r < records) × (a < records) }
+fn sweep_row(numbers: &mut [u8; NUMBERS], r: usize, a: usize, was: bool) -> bool
+    requires { (r < records) × (a < records) }
     ensures { RowSwept a r (pairs numbers.old) (pairs numbers.new) was result }
 {
     if !above(numbers, r, a) {
         return was;
     }
     let mut changed = was;
-    let mut t = 0;
-    while t < TERMS {
+    for t in 0..TERMS {
         let v = number(numbers, a, t);
         changed = lower(numbers, r, t, v, changed);
-        t += 1;
     }
     changed
 }
 
 // Staying at each vocabulary term, for record r.
-fn sweep_rests<'a>(
+fn sweep_rests(
     scratch: &[u8],
     triples: usize,
-    up: &'a [u8; RECORDS],
-    role: &'a [u8; RECORDS],
-    goal: Goal,
-    numbers: &mut [u8],
+    ahead: &Ahead,
+    numbers: &mut [u8; NUMBERS],
     label: Label,
     cost: usize,
     r: usize,
     was: bool,
 ) -> bool
-    requires { Full numbers.old × Climbs records up.now role.now × (r < records) × Tests label r × (cost < 2) }
-    ensures { (s : List ℕ) → Threads s triples scratch.now → RestsSwept s triples up.now role.now (goal_of goal) label cost r (pairs numbers.old) (pairs numbers.new) was result }
+    requires { (r < records) × Tests label r × (cost < 2) }
+    ensures { (s : List ℕ) → Threads s triples scratch.now → RestsSwept s triples ahead.now.links.now.up ahead.now.links.now.role (goal_of ahead.now.goal) label cost r (pairs numbers.old) (pairs numbers.new) was result }
 {
     let mut changed = was;
-    let mut t = 0;
-    while t < TERMS {
+    for t in 0..TERMS {
         if word(scratch, triples, t) {
-            changed = rest(up, role, goal, numbers, label, cost, r, t, changed);
+            changed = rest(ahead, numbers, label, cost, r, t, changed);
         }
-        t += 1;
     }
     changed
 }
 
-// Each triple for the step of record r, whose axis takes triples.
-pub fn sweep_axis<'a>(
-    site: &[u8],
-    triples: usize,
-    step: Step,
-    up: &'a [u8; RECORDS],
-    role: &'a [u8; RECORDS],
-    goal: Goal,
-    numbers: &mut [u8],
+// Each triple for the step of record r with this axis and label.
+pub fn sweep_axis(
+    site: &Site,
+    axis: Axis,
+    label: Label,
+    ahead: &Ahead,
+    numbers: &mut [u8; NUMBERS],
     r: usize,
     was: bool,
 ) -> bool
-    requires { Accepted site.now triples × Full numbers.old × Climbs records up.now role.now × (r < records) × Tests step.label r }
-    ensures { AxisSwept site.now triples step up.now role.now (goal_of goal) r (pairs numbers.old) (pairs numbers.new) was result }
+    requires { (r < records) × Tests label r }
+    ensures { AxisSwept site.now.bytes.now site.now.triples axis label ahead.now.links.now.up ahead.now.links.now.role (goal_of ahead.now.goal) r (pairs numbers.old) (pairs numbers.new) was result }
 {
-    let parts = parts_of(step.axis);
-    let label = step.label;
+    let parts = parts_of(axis);
     let mut changed = was;
-    let mut k = 0;
-    while k < triples {
-        changed = look(site, k, parts, label, up, role, goal, numbers, r, changed);
-        k += 1;
+    for k in 0..site.triples {
+        changed = look(site, k, parts, label, ahead, numbers, r, changed);
     }
     changed
 }
 
-// Each triple of one thread, for the step of record r, whose axis takes triples. The others are known to offer nothing lower.
-pub fn sweep_thread<'a>(
-    site: &[u8],
+// Each triple of one thread, for the step of record r with this axis and label. The others are known to offer nothing lower.
+pub fn sweep_thread(
+    site: &Site,
     scratch: &[u8],
-    triples: usize,
-    step: Step,
-    by: usize,
+    axis: Axis,
+    label: Label,
+    by: Axis,
     term: usize,
-    up: &'a [u8; RECORDS],
-    role: &'a [u8; RECORDS],
-    goal: Goal,
-    numbers: &mut [u8],
+    ahead: &Ahead,
+    numbers: &mut [u8; NUMBERS],
     r: usize,
     was: bool,
 ) -> bool
-    requires { Accepted site.now triples × Full numbers.old × Climbs records up.now role.now × (r < records) × Tests step.label r × (term < terms) }
-    ensures { ThreadSwept site.now triples scratch.now step by term up.now role.now (goal_of goal) r (pairs numbers.old) (pairs numbers.new) was result }
+    requires { (r < records) × Tests label r × (term < terms) }
+    ensures { ThreadSwept site.now.bytes.now site.now.triples scratch.now axis label by term ahead.now.links.now.up ahead.now.links.now.role (goal_of ahead.now.goal) r (pairs numbers.old) (pairs numbers.new) was result }
 {
-    let axis = step.axis;
-    let label = step.label;
     let parts = parts_of(axis);
     let next = next_by(by);
     let mut changed = was;
     let mut k = first_from(scratch, by, term);
-    while k < triples {
-        changed = look(site, k, parts, label, up, role, goal, numbers, r, changed);
-        k = next_from(site, triples, scratch, next, term, k);
+    while k < site.triples {
+        changed = look(site, k, parts, label, ahead, numbers, r, changed);
+        k = next_from(site, scratch, next, term, k);
     }
     changed
 }
 
-// The one term at which the rule is finished, where record r finishes it; no term where there is none or more.
-fn only_end<'a>(role: &'a [u8; RECORDS], goal: Goal, r: usize) -> usize
+// The one term at which the rule is finished, where record r finishes it and there is such a term.
+fn only_end(ahead: &Ahead, r: usize) -> Option<usize>
     requires { r < records }
-    ensures { OnlyEnd role.now (goal_of goal) r result }
+    ensures { IfSome result (λ v. (v < terms) × OnlyEnd ahead.now.links.now.role (goal_of ahead.now.goal) r v) }
 {
-    if role[r] != AS_WHOLE {
-        return TERMS;
+    match (ahead.goal, ahead.links.role(r)) {
+        (Goal::End(term), Role::Whole) if term < TERMS => Some(term),
+        _ => None,
     }
-    match goal {
-        Goal::End(term) => term,
-        Goal::Anywhere => TERMS,
+}
+
+// A self step of record r with this label: at its named term, or at each vocabulary term.
+fn sweep_self(
+    site: &Site,
+    scratch: &[u8],
+    label: Label,
+    ahead: &Ahead,
+    numbers: &mut [u8; NUMBERS],
+    r: usize,
+    was: bool,
+) -> bool
+    requires { (r < records) × Tests label r × Threads site.now.bytes.now site.now.triples scratch.now }
+    ensures { SelfSwept site.now.bytes.now site.now.triples label ahead.now.links.now.up ahead.now.links.now.role (goal_of ahead.now.goal) r (pairs numbers.old) (pairs numbers.new) was result }
+{
+    if let Label::Term(term) = label {
+        return rest(ahead, numbers, label, 1, r, term, was);
     }
+    sweep_rests(scratch, site.triples, ahead, numbers, label, 1, r, was)
 }
 
 // The step of record r, whatever its axis: by the triples with its name, or those that lead to the end where it finishes the rule, or
-// all; self stays, at its named term or at each vocabulary term.
-fn sweep_step<'a>(
-    site: &[u8],
+// all; self stays.
+fn sweep_step(
+    site: &Site,
     scratch: &[u8],
-    triples: usize,
     step: Step,
-    up: &'a [u8; RECORDS],
-    role: &'a [u8; RECORDS],
-    goal: Goal,
-    numbers: &mut [u8],
+    ahead: &Ahead,
+    numbers: &mut [u8; NUMBERS],
     r: usize,
     was: bool,
 ) -> bool
-    requires { Accepted site.now triples × Full numbers.old × Climbs records up.now role.now × (r < records) × Tests step.label r × Threads site.now triples scratch.now }
-    ensures { StepSwept site.now triples step up.now role.now (goal_of goal) r (pairs numbers.old) (pairs numbers.new) was result }
+    requires { (r < records) × Tests step.label r × Threads site.now.bytes.now site.now.triples scratch.now }
+    ensures { StepSwept site.now.bytes.now site.now.triples step ahead.now.links.now.up ahead.now.links.now.role (goal_of ahead.now.goal) r (pairs numbers.old) (pairs numbers.new) was result }
 {
     let label = step.label;
-    if step.axis != 0 {
-        if let Label::Term(term) = label {
-            let by = by_middle(step.axis);
-            return sweep_thread(
-                site, scratch, triples, step, by, term, up, role, goal, numbers, r, was,
-            );
-        }
-        let end = only_end(role, goal, r);
-        if end < TERMS {
-            let back = inverse(step.axis);
-            return sweep_thread(
-                site, scratch, triples, step, back, end, up, role, goal, numbers, r, was,
-            );
-        }
-        if step_quiet(site, triples, step, up, role, goal, numbers, r) {
-            return was;
-        }
-        return sweep_axis(site, triples, step, up, role, goal, numbers, r, was);
-    }
+    let Some(axis) = step.axis else {
+        return sweep_self(site, scratch, label, ahead, numbers, r, was);
+    };
     if let Label::Term(term) = label {
-        return rest(up, role, goal, numbers, label, 1, r, term, was);
+        let by = by_middle(axis);
+        return sweep_thread(site, scratch, axis, label, by, term, ahead, numbers, r, was);
     }
-    sweep_rests(scratch, triples, up, role, goal, numbers, label, 1, r, was)
+    if let Some(end) = only_end(ahead, r) {
+        let back = inverse(axis);
+        return sweep_thread(
+            site, scratch, axis, label, back, end, ahead, numbers, r, was,
+        );
+    }
+    if step_quiet(site, axis, label, ahead, numbers, r) {
+        return was;
+    }
+    sweep_axis(site, axis, label, ahead, numbers, r, was)
 }
 
 // The star of record r, if it is not seen to be quiet: its round, and passing empty at each vocabulary term.
-fn sweep_star<'a>(
+fn sweep_star(
     scratch: &[u8],
     triples: usize,
-    up: &'a [u8; RECORDS],
-    role: &'a [u8; RECORDS],
-    goal: Goal,
-    numbers: &mut [u8],
+    ahead: &Ahead,
+    numbers: &mut [u8; NUMBERS],
     r: usize,
     was: bool,
 ) -> bool
-    requires { Full numbers.old × Climbs records up.now role.now × (r < records) × (0 < r) }
-    ensures { (s : List ℕ) → Threads s triples scratch.now → RecordSwept s triples Star 0 up.now role.now (goal_of goal) r (pairs numbers.old) (pairs numbers.new) was result }
+    requires { (r < records) × (0 < r) }
+    ensures { (s : List ℕ) → Threads s triples scratch.now → RecordSwept s triples Star 0 ahead.now.links.now.up ahead.now.links.now.role (goal_of ahead.now.goal) r (pairs numbers.old) (pairs numbers.new) was result }
 {
-    if star_quiet(up, role, goal, numbers, r) {
+    if star_quiet(ahead, numbers, r) {
         return was;
     }
     let one = sweep_row(numbers, r, r - 1, was);
-    sweep_rests(
-        scratch,
-        triples,
-        up,
-        role,
-        goal,
-        numbers,
-        Label::Any,
-        0,
-        r,
-        one,
-    )
+    sweep_rests(scratch, triples, ahead, numbers, Label::Any, 0, r, one)
 }
 
 // The row of record r, by its record; `first` is the record of a join's first operand.
-fn sweep_record<'a>(
-    site: &[u8],
+fn sweep_record(
+    site: &Site,
     scratch: &[u8],
-    triples: usize,
     rec: Record,
     first: usize,
-    up: &'a [u8; RECORDS],
-    role: &'a [u8; RECORDS],
-    goal: Goal,
-    numbers: &mut [u8],
+    ahead: &Ahead,
+    numbers: &mut [u8; NUMBERS],
     r: usize,
     was: bool,
 ) -> bool
-    requires { Accepted site.now triples × Full numbers.old × Climbs records up.now role.now × (r < records) × Sits rec r × (first < records) × Threads site.now triples scratch.now }
-    ensures { RecordSwept site.now triples rec first up.now role.now (goal_of goal) r (pairs numbers.old) (pairs numbers.new) was result }
+    requires { (r < records) × Sits rec r × (first < records) × Threads site.now.bytes.now site.now.triples scratch.now }
+    ensures { RecordSwept site.now.bytes.now site.now.triples rec first ahead.now.links.now.up ahead.now.links.now.role (goal_of ahead.now.goal) r (pairs numbers.old) (pairs numbers.new) was result }
 {
     match rec {
-        Record::Step(step) => sweep_step(
-            site, scratch, triples, step, up, role, goal, numbers, r, was,
-        ),
+        Record::Step(step) => sweep_step(site, scratch, step, ahead, numbers, r, was),
         Record::Sequence => sweep_row(numbers, r, first, was),
         Record::Choice => {
             let one = sweep_row(numbers, r, first, was);
             sweep_row(numbers, r, r - 1, one)
         }
-        Record::Star => sweep_star(scratch, triples, up, role, goal, numbers, r, was),
+        Record::Star => sweep_star(scratch, site.triples, ahead, numbers, r, was),
     }
 }
 
 // Every row once. False where nothing changed.
-fn sweep<'a>(
-    site: &[u8],
-    scratch: &[u8],
-    triples: usize,
-    rule: &[u8],
-    starts: &[u8; RECORDS],
-    count: usize,
-    up: &'a [u8; RECORDS],
-    role: &'a [u8; RECORDS],
-    first: &'a [u8; RECORDS],
-    goal: Goal,
-    numbers: &mut [u8],
-) -> bool
-    requires { Ready site.now triples rule.now starts.now count up.now role.now first.now × Full numbers.old × Threads site.now triples scratch.now }
-    ensures { SweptOver site.now triples rule.now up.now role.now first.now (goal_of goal) (pairs numbers.old) (pairs numbers.new) result }
+fn sweep(task: &Task, scratch: &[u8], numbers: &mut [u8; NUMBERS]) -> bool
+    requires { ThreadsOf task.now scratch.now }
+    ensures { SweptFor task.now (pairs numbers.old) (pairs numbers.new) result }
 {
     let mut changed = false;
-    let mut r = 0;
-    while r < count {
-        let rec = record_of(rule, starts, r);
-        let operand = first[r] as usize;
+    for r in 0..task.rule.count {
+        let rec = record_of(task.rule.bytes, task.rule.starts, r);
+        let first = task.ahead.links.first(r);
         changed = sweep_record(
-            site, scratch, triples, rec, operand, up, role, goal, numbers, r, changed,
+            &task.site,
+            scratch,
+            rec,
+            first,
+            &task.ahead,
+            numbers,
+            r,
+            changed,
         );
-        r += 1;
     }
     changed
 }
 
 // Sweeps until one changes nothing.
-pub fn settle<'a>(
-    site: &[u8],
-    scratch: &[u8],
-    triples: usize,
-    rule: &[u8],
-    starts: &[u8; RECORDS],
-    count: usize,
-    up: &'a [u8; RECORDS],
-    role: &'a [u8; RECORDS],
-    first: &'a [u8; RECORDS],
-    goal: Goal,
-    numbers: &mut [u8],
-)
-    requires { Ready site.now triples rule.now starts.now count up.now role.now first.now × Full numbers.old × Threads site.now triples scratch.now }
-    ensures { SettledOver site.now triples rule.now up.now role.now first.now (goal_of goal) (pairs numbers.old) (pairs numbers.new) }
+pub fn settle(task: &Task, scratch: &[u8], numbers: &mut [u8; NUMBERS])
+    requires { ThreadsOf task.now scratch.now }
+    ensures { SettledFor task.now (pairs numbers.old) (pairs numbers.new) }
 {
-    while sweep(
-        site, scratch, triples, rule, starts, count, up, role, first, goal, numbers,
-    ) {}
+    while sweep(task, scratch, numbers) {}
 }
 
 // Every entry becomes none.
-pub fn clear(numbers: &mut [u8])
-    requires { Full numbers.old }
+pub fn clear(numbers: &mut [u8; NUMBERS])
     ensures { pairs numbers.new ≡ replicate (records * terms) none }
 {
-    let mut i = 0;
-    while i < numbers.len() {
-        numbers[i] = 255;
-        i += 1;
-    }
+    numbers.fill(255);
 }

@@ -3,10 +3,15 @@ ghost use Rattle.std.specs.Prelude.{◌≡◌, ◌+◌, ◌*◌, ◌<◌, ◌≤
 ghost use Rattle.meaning.specs.Limits.{terms, records, none};
 ghost use Rattle.fewest.specs.Pairs.{pairs};
 ghost use Rattle.fewest.specs.Offer.{place, view};
-ghost use Rattle.fewest.specs.Table.{Full, Lowered};
+ghost use Rattle.fewest.specs.Table.{Lowered};
 
 use crate::pairs::{get, put};
-use records::TERMS;
+use records::{RECORDS, TERMS};
+
+// The entries of a table by record and term, and its bytes where each takes two.
+pub const ENTRIES: usize = RECORDS * TERMS;
+
+pub const NUMBERS: usize = ENTRIES + ENTRIES;
 
 // The place of an entry.
 pub fn entry(r: usize, t: usize) -> usize
@@ -17,16 +22,16 @@ pub fn entry(r: usize, t: usize) -> usize
 }
 
 // The entry of record r at term t.
-pub fn number(numbers: &[u8], r: usize, t: usize) -> usize
-    requires { Full numbers.now × (r < records) × (t < terms) }
+pub fn number(numbers: &[u8; NUMBERS], r: usize, t: usize) -> usize
+    requires { (r < records) × (t < terms) }
     ensures { (result ≡ view (pairs numbers.now) r t) × (result ≤ none) }
 {
     get(numbers, entry(r, t))
 }
 
 // The entry becomes v where v is lower. True if it did, or if anything was changed before.
-pub fn lower(numbers: &mut [u8], r: usize, t: usize, v: usize, was: bool) -> bool
-    requires { Full numbers.old × (r < records) × (t < terms) }
+pub fn lower(numbers: &mut [u8; NUMBERS], r: usize, t: usize, v: usize, was: bool) -> bool
+    requires { (r < records) × (t < terms) }
     ensures { Lowered r t v (pairs numbers.old) (pairs numbers.new) was result }
 {
     let i = entry(r, t);

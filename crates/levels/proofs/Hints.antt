@@ -16,16 +16,15 @@ use Rattle.records.specs.declared.Step.{Step}
 use Rattle.records.specs.declared.Record.{Record}
 use Rattle.records.specs.declared.Record.TheVariants as kind
 use Rattle.records.specs.Sites.{site_of}
-use Rattle.records.specs.Rules.{axis_numbered, labelled, rec_of, record_at, records_of}
+use Rattle.records.specs.Rules.{axis_meant, labelled, rec_of, record_at, records_of}
 use Rattle.fewest.specs.declared.look.Moved.{Moved}
 use Rattle.fewest.specs.Pairs.{pairs}
 use Rattle.fewest.specs.Frame.{Frame, frame}
 use Rattle.fewest.specs.Offer.{Work, stepping, copying, works_of, Lowers, Settles, rest, work}
-use Rattle.fewest.specs.Table.{Full, Lowered}
+use Rattle.fewest.specs.Table.{Lowered}
 use Rattle.fewest.specs.Work.{Least, work_of, allowing, Sits, Rows, idle, worked, Ready, SettledOver}
 use Rattle.fewest.proofs.Sweeps.{settles_then}
 use Rattle.fewest.proofs.Looks.{looked, step_offer}
-use Rattle.fewest.proofs.ByTriples.{self_axis}
 use Rattle.fewest.proofs.ByRecords.{rows_within}
 use Rattle.levels.specs.Levelled.{Reached, RecordWorked, Stepping, Hinted}
 
@@ -38,11 +37,6 @@ module _ {b rule up role first : List ℕ} {n : ℕ} {g : Goal} where
   pub hinted_then : {N M L : List ℕ} → Hinted b n rule up role first g N M → Hinted b n rule up role first g M L →
       Hinted b n rule up role first g N L
   hinted_then p q = record { long = q.long ∙ p.long; reached = settles_then p.reached q.reached }
-
-  -- a full table stays full
-  pub hinted_full : {N M : List ℕ} → Hinted b n rule up role first g N M → Full N → Full M
-  unfolding Full
-  hinted_full p full = p.long ∙ full
 
   -- what settles the table that was reached settles the one before
   pub hinted_settled : {N M T : List ℕ} → Hinted b n rule up role first g N M → SettledOver b n rule up role first g (pairs M) T →
@@ -83,7 +77,7 @@ module _ {b rule starts up role first : List ℕ} {n count : ℕ} (ready : Ready
     (here : r < count) where
   -- the works of record r, as it is read at its place
   pub hinted_works : {g : Goal} {x : Record} {N M : List ℕ} → x ≡ record_at rule (get_or starts r 0) → length M ≡ length N →
-      RecordWorked b n x (get_or first r 0) up role g r (pairs N) (pairs M) → Hinted b n rule up role first g N M
+      RecordWorked (frame (site_of b n) up role g) x (get_or first r 0) r (pairs N) (pairs M) → Hinted b n rule up role first g N M
   hinted_works {g} e long p = record {
     long = long;
     reached = rows_within (Settles (frame (site_of b n) up role g) (records_of rule) first) (λ T. rest)
@@ -92,15 +86,10 @@ module _ {b rule starts up role first : List ℕ} {n count : ℕ} (ready : Ready
 
   -- the one work of a step
   pub hinted_step : {g : Goal} (x : Step) {N M : List ℕ} → Stepping rule starts r x → length M ≡ length N →
-      Lowers (frame (site_of b n) up role g) (work_of (axis_numbered x.axis) x.label) r (pairs N) (pairs M) →
+      Lowers (frame (site_of b n) up role g) (work_of (axis_meant x.axis) x.label) r (pairs N) (pairs M) →
       Hinted b n rule up role first g N M
   unfolding Stepping
-  hinted_step x e long p = hinted_works (sym e) long (step_worked (axis_numbered x.axis) x.label r (get_or first r 0) p)
-
-  -- of a self step
-  pub hinted_self : {g : Goal} (x : Step) {N M : List ℕ} → Stepping rule starts r x → x.axis ≡ 0 → length M ≡ length N →
-      Lowers (frame (site_of b n) up role g) (work_of self x.label) r (pairs N) (pairs M) → Hinted b n rule up role first g N M
-  hinted_self x e here_self long p = hinted_step x e long (rw (self_axis x.axis here_self) p)
+  hinted_step x e long p = hinted_works (sym e) long (step_worked (axis_meant x.axis) x.label r (get_or first r 0) p)
 
   -- a step sits where it is read
   pub stepping_sits : (x : Step) → Stepping rule starts r x → Sits (kind.Step x) r

@@ -1,13 +1,11 @@
 -- The laws of the levels, which lower the numbers and keep the threads: nothing was done, one of the two alone, one after another.
--- A full table stays full.
 use Prim.Native.Nat.{ℕ}
 use mathlib.Core.List.{List}
 use Rattle.meaning.specs.Fewest.{Goal}
-use Rattle.fewest.specs.Table.{Full}
 use Rattle.fewest.specs.Kept.{Kept}
 use Rattle.fewest.proofs.Keeping.{kept_none, kept_then}
 use Rattle.levels.specs.Levelled.{Hinted, Levelled}
-use Rattle.levels.proofs.Hints.{hinted_none, hinted_then, hinted_full}
+use Rattle.levels.proofs.Hints.{hinted_none, hinted_then}
 
 module _ {b rule up role first : List ℕ} {n : ℕ} {g : Goal} where
   -- nothing was done
@@ -27,6 +25,5 @@ module _ {b rule up role first : List ℕ} {n : ℕ} {g : Goal} where
       Levelled b n rule up role first g N L X Z
   levelled_then p q = record { numbers = hinted_then p.numbers q.numbers; scratch = kept_then p.scratch q.scratch }
 
-  -- a full table stays full
-  pub levelled_full : {N M X Y : List ℕ} → Levelled b n rule up role first g N M X Y → Full N → Full M
-  levelled_full p full = hinted_full p.numbers full
+-- all of these
+pub ruleset levelling = (hinted_none, hinted_then, levelled_none, levelled_then, levelled_numbers, levelled_scratch)

@@ -1,2 +1,3 @@
 -- What the levels promise.
 pub mod Levelled
+pub mod Once

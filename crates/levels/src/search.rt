@@ -1,1277 +1,589 @@
 // The number table by levels: from the finish of each body, the innermost body first, one step more at each level. What is stored
 // is offered by the table; where to look is a hint from scratch, and the sweep that follows certifies that nothing is missing.
-ghost use Rattle.std.specs.Prelude.{◌≡◌, ◌≢◌, ◌*◌, ◌<◌, length};
+#![tactic(auto, using(crate::proofs::Levelling::levelling, crate::proofs::Steps::steps), unfolding(meaning::specs::Limits::records, meaning::specs::Limits::terms, meaning::specs::Limits::triples, meaning::specs::Limits::none))]
+
+ghost use Rattle.std.specs.Prelude.{◌≡◌, ◌<◌};
 ghost use Rattle.meaning.specs.Limits.{terms, records};
 ghost use Rattle.meaning.specs.Move.{self};
-ghost use Rattle.records.specs.Sites.{Accepted, site_of};
 ghost use Rattle.records.specs.declared.Record.TheVariants.{Star};
 ghost use Rattle.fewest.specs.Pairs.{pairs};
-ghost use Rattle.fewest.specs.Frame.{Climbs, frame};
 ghost use Rattle.fewest.specs.Offer.{Lowers};
-ghost use Rattle.fewest.specs.Table.{Full};
-ghost use Rattle.fewest.specs.Work.{goal_of, Tests, work_of, parts_of, Sits, Ready};
-ghost use Rattle.fewest.specs.Threads.{Threads};
+ghost use Rattle.fewest.specs.Work.{goal_of, Tests, work_of, Sits};
 ghost use Rattle.fewest.specs.Kept.{Kept};
-ghost use Rattle.levels.specs.Levelled.{Stayed, Reached, RecordWorked, Stepping, Hinted, Levelled};
+ghost use Rattle.fewest.specs.Tasks.{ThreadsOf};
+ghost use Rattle.levels.specs.Levelled.{framed, Stayed, Reached, TakesBy, RecordWorked, HintedFor, LevelledFor};
 
+use crate::bits::Bits;
+use crate::level::Level;
+use crate::node::Node;
 use crate::sets::{
-    DONE, LIST, NEW, before, befores, ends_in_star, last_in, lasts, less, orders, parent_of,
-    place_of, record_in, root_of, size_of, sizes, step_of,
+    DONE, LIST, NEW, before, befores, ends_in_star, last_in, lasts, orders, parent_of, place_of,
+    record_in, root_of, size_of, sizes, step_of,
 };
+use crate::spot::Spot;
+use crate::step::{RuleStep, step_at};
 use fewest::Goal;
-use fewest::cells::{byte_at, cell, put_byte, put_set, put_sets};
+use fewest::cells::{cell, put_set, put_sets};
 use fewest::left::left;
-use fewest::links::AS_WHOLE;
+use fewest::links::Role;
 use fewest::look::{Moved, Parts, allows, move_at, parts_of, rest};
 use fewest::sweep::{sweep_axis, sweep_thread};
-use fewest::table::{lower, number};
-use fewest::threads::{by_middle, first_to, inverse, next_by, next_from, thread, witness};
-use records::rule::record_of;
-use records::site::triple_at;
-use records::{Label, NONE, RECORDS, Record, Step, TERMS};
+use fewest::table::{ENTRIES, NUMBERS, lower, number};
+use fewest::task::{Ahead, Task};
+use fewest::threads::{by_middle, first_to, inverse, next_by, next_from, thread};
+use records::{Axis, Label, NONE, RECORDS, Record, TERMS};
 
-// Staying at t for record r, where t stands in triple k.
-fn stay<'a>(
-    site: &[u8],
-    triples: usize,
-    k: usize,
-    up: &'a [u8; RECORDS],
-    role: &'a [u8; RECORDS],
-    goal: Goal,
-    numbers: &mut [u8],
+// Staying at a term for record r, where the term stands in a triple.
+fn stay(
+    task: &Task,
+    numbers: &mut [u8; NUMBERS],
     label: Label,
     cost: usize,
     r: usize,
-    t: usize,
+    at: Spot,
 ) -> bool
-    requires { Accepted site.now triples × Full numbers.old × Climbs records up.now role.now × (r < records) × (t < terms) × Tests label r × (cost < 2) }
-    ensures { Stayed site.now triples up.now role.now (goal_of goal) label cost r (pairs numbers.old) (pairs numbers.new) }
+    requires { (r < records) × Tests label r × (cost < 2) }
+    ensures { Stayed (framed task.now) label cost r (pairs numbers.old) (pairs numbers.new) }
 {
-    if triples <= k {
-        return false;
-    }
-    let x = triple_at(site, k);
-    if x.subject == t {
-        return rest(up, role, goal, numbers, label, cost, r, t, false);
-    }
-    if x.object == t {
-        return rest(up, role, goal, numbers, label, cost, r, t, false);
+    if at.stands(&task.site) {
+        return rest(&task.ahead, numbers, label, cost, r, at.term, false);
     }
     false
 }
 
-// A star's entry at t, which stands in triple k, from its operand's or, where that is no lower, by an empty round.
-fn star_at<'a>(
-    site: &[u8],
-    triples: usize,
-    up: &'a [u8; RECORDS],
-    role: &'a [u8; RECORDS],
-    goal: Goal,
-    numbers: &mut [u8],
-    r: usize,
-    t: usize,
-    k: usize,
-) -> bool
-    requires { Accepted site.now triples × Full numbers.old × Climbs records up.now role.now × (r < records) × (0 < r) × (t < terms) }
-    ensures { RecordWorked site.now triples Star 0 up.now role.now (goal_of goal) r (pairs numbers.old) (pairs numbers.new) }
+// A star's entry at a term, from its operand's or, where that is no lower, by an empty round.
+fn star_at(task: &Task, numbers: &mut [u8; NUMBERS], r: usize, at: Spot) -> bool
+    requires { (r < records) × (0 < r) }
+    ensures { RecordWorked (framed task.now) Star 0 r (pairs numbers.old) (pairs numbers.new) }
 {
-    let v = number(numbers, r - 1, t);
-    if lower(numbers, r, t, v, false) {
+    let v = number(numbers, r - 1, at.term);
+    if lower(numbers, r, at.term, v, false) {
         return true;
     }
-    stay(
-        site,
-        triples,
-        k,
-        up,
-        role,
-        goal,
-        numbers,
-        Label::Any,
-        0,
-        r,
-        t,
-    )
+    stay(task, numbers, Label::Any, 0, r, at)
 }
 
-// The entry of record r at t, which stands in triple k, from its operands'; a step has none.
-fn column<'a>(
-    site: &[u8],
-    triples: usize,
-    rec: Record,
-    first: usize,
-    up: &'a [u8; RECORDS],
-    role: &'a [u8; RECORDS],
-    goal: Goal,
-    numbers: &mut [u8],
-    r: usize,
-    t: usize,
-    k: usize,
-) -> bool
-    requires { Accepted site.now triples × Full numbers.old × Climbs records up.now role.now × (r < records) × (t < terms) × Sits rec r × (first < records) }
-    ensures { RecordWorked site.now triples rec first up.now role.now (goal_of goal) r (pairs numbers.old) (pairs numbers.new) }
+// The entry of record r at a term, from its operands'; a step has none.
+fn column(task: &Task, numbers: &mut [u8; NUMBERS], node: Node, r: usize, at: Spot) -> bool
+    requires { (r < records) × Sits node.rec r × (node.first < records) }
+    ensures { RecordWorked (framed task.now) node.rec node.first r (pairs numbers.old) (pairs numbers.new) }
 {
-    match rec {
+    match node.rec {
         Record::Step(_) => false,
         Record::Sequence => {
-            let v = number(numbers, first, t);
-            lower(numbers, r, t, v, false)
+            let v = number(numbers, node.first, at.term);
+            lower(numbers, r, at.term, v, false)
         }
         Record::Choice => {
-            let v = number(numbers, first, t);
-            let one = lower(numbers, r, t, v, false);
-            let w = number(numbers, r - 1, t);
-            lower(numbers, r, t, w, one)
+            let v = number(numbers, node.first, at.term);
+            let one = lower(numbers, r, at.term, v, false);
+            let w = number(numbers, r - 1, at.term);
+            lower(numbers, r, at.term, w, one)
         }
-        Record::Star => star_at(site, triples, up, role, goal, numbers, r, t, k),
+        Record::Star => star_at(task, numbers, r, at),
     }
 }
 
-// The entry of record r at t, if it has none yet.
-fn fill_in<'a>(
-    site: &[u8],
-    triples: usize,
-    rule: &[u8],
-    starts: &[u8; RECORDS],
-    count: usize,
-    up: &'a [u8; RECORDS],
-    role: &'a [u8; RECORDS],
-    first: &'a [u8; RECORDS],
-    goal: Goal,
-    numbers: &mut [u8],
-    r: usize,
-    t: usize,
-    k: usize,
-) -> bool
-    requires { Ready site.now triples rule.now starts.now count up.now role.now first.now × Full numbers.old × (t < terms) }
-    ensures { Hinted site.now triples rule.now up.now role.now first.now (goal_of goal) numbers.old numbers.new }
+// The entry of record r at a term, if it has none yet.
+fn fill_in(task: &Task, numbers: &mut [u8; NUMBERS], r: usize, at: Spot)
+    ensures { HintedFor task.now numbers.old numbers.new }
 {
-    if count <= r {
-        return false;
+    if task.rule.count <= r || number(numbers, r, at.term) < NONE {
+        return;
     }
-    if number(numbers, r, t) < NONE {
-        return false;
-    }
-    let rec = record_of(rule, starts, r);
-    let operand = first[r] as usize;
-    column(
-        site, triples, rec, operand, up, role, goal, numbers, r, t, k,
-    )
+    let node = Node::of(&task.rule, task.ahead.links, r);
+    column(task, numbers, node, r, at);
 }
 
-// The entries at t of those records of the expression of record r that may end with a star, in the order second operand, first
-// operand, record: where the expression may be finished, such a star may pass empty.
-fn fill_within<'a>(
-    site: &[u8],
-    triples: usize,
-    rule: &[u8],
-    starts: &[u8; RECORDS],
-    count: usize,
-    up: &'a [u8; RECORDS],
-    role: &'a [u8; RECORDS],
-    first: &'a [u8; RECORDS],
-    goal: Goal,
-    scratch: &[u8],
-    numbers: &mut [u8],
-    r: usize,
-    t: usize,
-    k: usize,
-)
-    requires { Ready site.now triples rule.now starts.now count up.now role.now first.now × Full numbers.old × (t < terms) }
-    ensures { Hinted site.now triples rule.now up.now role.now first.now (goal_of goal) numbers.old numbers.new }
+// The entries at a term of those records of the expression of record r that may end with a star, in the order second operand,
+// first operand, record: where the expression may be finished, such a star may pass empty.
+fn fill_within(task: &Task, scratch: &[u8], numbers: &mut [u8; NUMBERS], r: usize, at: Spot)
+    ensures { HintedFor task.now numbers.old numbers.new }
 {
-    let end = place_of(scratch, r) % RECORDS + 1;
-    let mut i = less(end, size_of(scratch, r));
-    while i < end {
-        let q = record_in(scratch, i);
+    let end = place_of(scratch, r) + 1;
+    for place in end.saturating_sub(size_of(scratch, r))..end {
+        let q = record_in(scratch, place);
         if ends_in_star(scratch, q) {
-            fill_in(
-                site, triples, rule, starts, count, up, role, first, goal, numbers, q, t, k,
-            );
+            fill_in(task, numbers, q, at);
         }
-        i += 1;
     }
 }
 
-// What may be finished at a term where the operand `at` of a record has a new entry: the first of a sequence where it is the
-// second, itself where it is a star's; else nothing, which is told by a number that no record has.
-fn finished_by(rec: Record, first: usize, at: usize) -> usize {
-    match rec {
-        Record::Step(_) => RECORDS,
-        Record::Sequence => {
-            if first == at {
-                return RECORDS;
-            }
-            first
-        }
-        Record::Choice => RECORDS,
-        Record::Star => at,
+// That, if the expression may end with a star at all, which may pass empty in the vocabulary.
+fn pass(task: &Task, scratch: &[u8], numbers: &mut [u8; NUMBERS], r: usize, at: Spot)
+    ensures { HintedFor task.now numbers.old numbers.new }
+{
+    if at.in_vocabulary(&task.site) && ends_in_star(scratch, r) {
+        fill_within(task, scratch, numbers, r, at);
     }
 }
 
-// The expression of record r, if that is one, may end with a star, which may pass empty at a term that stands in triple k.
-fn passes(scratch: &[u8], r: usize, triples: usize, k: usize) -> bool {
-    if RECORDS <= r {
-        return false;
+// What may be finished at a term where this operand of a record has a new entry: the first of a sequence where it is the second,
+// itself where it is a star's; else nothing.
+fn finished_by(node: Node, operand: usize) -> Option<usize> {
+    match node.rec {
+        Record::Sequence if node.first != operand => Some(node.first),
+        Record::Star => Some(operand),
+        _ => None,
     }
-    if triples <= k {
-        return false;
-    }
-    ends_in_star(scratch, r)
 }
 
-// The entry of `at` at t is new: what may be finished there passes empty, and the record above takes the entry if it is lower.
-fn climb_one<'a>(
-    site: &[u8],
-    triples: usize,
-    rule: &[u8],
-    starts: &[u8; RECORDS],
-    count: usize,
-    up: &'a [u8; RECORDS],
-    role: &'a [u8; RECORDS],
-    first: &'a [u8; RECORDS],
-    goal: Goal,
+// The entry of an operand at a term is new: what may be finished there passes empty, and the record above takes the entry if it
+// is lower.
+fn climb_one(
+    task: &Task,
     scratch: &[u8],
-    numbers: &mut [u8],
-    at: usize,
+    numbers: &mut [u8; NUMBERS],
+    operand: usize,
     above: usize,
-    t: usize,
-    k: usize,
+    at: Spot,
 ) -> bool
-    requires { Ready site.now triples rule.now starts.now count up.now role.now first.now × Full numbers.old × (t < terms) }
-    ensures { Hinted site.now triples rule.now up.now role.now first.now (goal_of goal) numbers.old numbers.new }
+    ensures { HintedFor task.now numbers.old numbers.new }
 {
-    if count <= above {
+    if task.rule.count <= above {
         return false;
     }
-    let rec = record_of(rule, starts, above);
-    let operand = first[above] as usize;
-    let done = finished_by(rec, operand, at);
-    if passes(scratch, done, triples, k) {
-        fill_within(
-            site, triples, rule, starts, count, up, role, first, goal, scratch, numbers, done, t, k,
-        );
+    let node = Node::of(&task.rule, task.ahead.links, above);
+    if let Some(done) = finished_by(node, operand) {
+        pass(task, scratch, numbers, done, at);
     }
-    column(
-        site, triples, rec, operand, up, role, goal, numbers, above, t, k,
-    )
+    column(task, numbers, node, above, at)
 }
 
-// The entry of record r at t is new: so may be those of the records above it.
-fn climb<'a>(
-    site: &[u8],
-    triples: usize,
-    rule: &[u8],
-    starts: &[u8; RECORDS],
-    count: usize,
-    up: &'a [u8; RECORDS],
-    role: &'a [u8; RECORDS],
-    first: &'a [u8; RECORDS],
-    goal: Goal,
-    scratch: &[u8],
-    numbers: &mut [u8],
-    r: usize,
-    t: usize,
-    k: usize,
-)
-    requires { Ready site.now triples rule.now starts.now count up.now role.now first.now × Full numbers.old × (r < records) × (t < terms) }
-    ensures { Hinted site.now triples rule.now up.now role.now first.now (goal_of goal) numbers.old numbers.new }
+// The entry of record r at a term is new: so may be those of the records above it.
+fn climb(task: &Task, scratch: &[u8], numbers: &mut [u8; NUMBERS], r: usize, at: Spot)
+    requires { r < records }
+    ensures { HintedFor task.now numbers.old numbers.new }
 {
-    let mut at = r;
+    let mut operand = r;
     loop {
-        let above = parent_of(scratch, at);
-        if above <= at {
+        let above = parent_of(scratch, operand);
+        if above <= operand || !climb_one(task, scratch, numbers, operand, above, at) {
             return;
         }
-        if !climb_one(
-            site, triples, rule, starts, count, up, role, first, goal, scratch, numbers, at, above,
-            t, k,
-        ) {
-            return;
-        }
-        at = above;
+        operand = above;
     }
 }
 
-// Of these steps those that may be open at t: all where t stands in triple k. Outside the vocabulary a star does not pass empty,
-// and only those are open after which something is left.
-fn possible<'a>(
-    triples: usize,
-    up: &'a [u8; RECORDS],
-    role: &'a [u8; RECORDS],
-    goal: Goal,
-    scratch: &[u8],
-    numbers: &[u8],
-    set: usize,
-    t: usize,
-    k: usize,
-) -> usize
-    requires { Full numbers.now × Climbs records up.now role.now × (t < terms) }
-{
-    if k < triples {
+// Of these steps those that may be open at a term: all in the vocabulary. Outside of it a star does not pass empty, and only those
+// are open after which something is left.
+fn possible(task: &Task, scratch: &[u8], numbers: &[u8; NUMBERS], set: usize, at: Spot) -> usize {
+    if at.in_vocabulary(&task.site) {
         return set;
     }
-    let mut rest = set;
-    let mut got = 0;
-    while rest != 0 {
-        let bit = usize::trailing_zeros(rest) as usize % RECORDS;
-        rest = rest & (rest - 1);
+    let mut open = 0;
+    for bit in Bits(set) {
         let r = step_of(scratch, bit);
-        got = got | possible_one(up, role, goal, numbers, r, bit, t);
+        if left(&task.ahead, numbers, r, at.term) < NONE {
+            open |= 1 << bit;
+        }
     }
-    got
+    open
 }
 
-// The bit of step record r, if something is left after it at t.
-fn possible_one<'a>(
-    up: &'a [u8; RECORDS],
-    role: &'a [u8; RECORDS],
-    goal: Goal,
-    numbers: &[u8],
-    r: usize,
-    bit: usize,
-    t: usize,
-) -> usize
-    requires { Full numbers.now × Climbs records up.now role.now × (r < records) × (bit < records) × (t < terms) }
-{
-    if left(numbers, up, role, goal, r, t) < NONE {
-        return 1usize << bit;
-    }
-    0
-}
-
-// The entry of a step at t is new: that is noted for the level of this side, whose length is handed on. The step is the set `one`.
-fn note(scratch: &mut [u8], side: usize, len: usize, one: usize, t: usize) -> usize
-    requires { t < terms }
-    ensures { Kept scratch.old scratch.new }
-{
-    let had = cell(scratch, NEW + side % 2 * TERMS + t);
-    put_set(scratch, NEW + side % 2 * TERMS + t, had | one);
-    if had != 0 {
-        return len;
-    }
-    if TERMS <= len {
-        return len;
-    }
-    put_byte(scratch, LIST + LIST + side % 2 * TERMS + len, t);
-    len + 1
-}
-
-// The entries of these steps at t, which stands in triple k, are new, and climb. The steps that may come before one of them.
-fn rise<'a>(
-    site: &[u8],
-    triples: usize,
-    rule: &[u8],
-    starts: &[u8; RECORDS],
-    count: usize,
-    up: &'a [u8; RECORDS],
-    role: &'a [u8; RECORDS],
-    first: &'a [u8; RECORDS],
-    goal: Goal,
-    scratch: &[u8],
-    numbers: &mut [u8],
-    new: usize,
-    t: usize,
-    k: usize,
-) -> usize
-    requires { Ready site.now triples rule.now starts.now count up.now role.now first.now × Full numbers.old × (t < terms) }
-    ensures { Hinted site.now triples rule.now up.now role.now first.now (goal_of goal) numbers.old numbers.new }
+// The entries of these steps at a term are new, and climb. The steps that may come before one of them.
+fn rise(task: &Task, scratch: &[u8], numbers: &mut [u8; NUMBERS], new: usize, at: Spot) -> usize
+    ensures { HintedFor task.now numbers.old numbers.new }
 {
     let mut all = 0;
-    let mut rest = new;
-    while rest != 0 {
-        let bit = usize::trailing_zeros(rest) as usize % RECORDS;
-        rest = rest & (rest - 1);
+    for bit in Bits(new) {
         let r = step_of(scratch, bit);
-        climb(
-            site, triples, rule, starts, count, up, role, first, goal, scratch, numbers, r, t, k,
-        );
-        all = all | before(scratch, r);
+        climb(task, scratch, numbers, r, at);
+        all |= before(scratch, r);
     }
     all
 }
 
-// What is new at u at the level of this side climbs, and gives way to what is open there: the steps that may come before, and those
-// of `also`, but for those that were open earlier.
-fn rise_term<'a>(
-    site: &[u8],
-    triples: usize,
-    rule: &[u8],
-    starts: &[u8; RECORDS],
-    count: usize,
-    up: &'a [u8; RECORDS],
-    role: &'a [u8; RECORDS],
-    first: &'a [u8; RECORDS],
-    goal: Goal,
+// What is new at t at a level climbs, and gives way to what is open there: the steps that may come before, and those of `also`,
+// but for those that were open earlier.
+fn rise_term(
+    task: &Task,
     scratch: &mut [u8],
-    numbers: &mut [u8],
+    numbers: &mut [u8; NUMBERS],
+    level: Level,
     also: usize,
-    u: usize,
-    side: usize,
+    t: usize,
 )
-    requires { Ready site.now triples rule.now starts.now count up.now role.now first.now × Full numbers.old }
-    ensures { Levelled site.now triples rule.now up.now role.now first.now (goal_of goal) numbers.old numbers.new scratch.old scratch.new }
+    requires { t < terms }
+    ensures { LevelledFor task.now numbers.old numbers.new scratch.old scratch.new }
 {
-    if TERMS <= u {
-        return;
-    }
-    let new = cell(scratch, NEW + side % 2 * TERMS + u);
-    let k = witness(scratch, u);
-    let all = also
-        | rise(
-            site, triples, rule, starts, count, up, role, first, goal, scratch, numbers, new, u, k,
-        );
-    let done = cell(scratch, DONE + u);
-    let ever = all | done;
-    let set = possible(
-        triples,
-        up,
-        role,
-        goal,
-        scratch,
-        numbers,
-        less(ever, done),
-        u,
-        k,
-    );
-    put_set(scratch, DONE + u, set | done);
-    put_set(scratch, NEW + side % 2 * TERMS + u, set);
+    let at = Spot::of(scratch, t);
+    let new = level.steps(scratch, t);
+    let all = also | rise(task, scratch, numbers, new, at);
+    let done = cell(scratch, DONE + t);
+    let open = possible(task, scratch, numbers, all & !done, at);
+    put_set(scratch, DONE + t, open | done);
+    level.put_steps(scratch, t, open);
 }
 
 // That at each term of a level.
-fn rise_level<'a>(
-    site: &[u8],
-    triples: usize,
-    rule: &[u8],
-    starts: &[u8; RECORDS],
-    count: usize,
-    up: &'a [u8; RECORDS],
-    role: &'a [u8; RECORDS],
-    first: &'a [u8; RECORDS],
-    goal: Goal,
+fn rise_level(
+    task: &Task,
     scratch: &mut [u8],
-    numbers: &mut [u8],
+    numbers: &mut [u8; NUMBERS],
+    level: Level,
     also: usize,
-    side: usize,
-    len: usize,
 )
-    requires { Ready site.now triples rule.now starts.now count up.now role.now first.now × Full numbers.old }
-    ensures { Levelled site.now triples rule.now up.now role.now first.now (goal_of goal) numbers.old numbers.new scratch.old scratch.new }
+    ensures { LevelledFor task.now numbers.old numbers.new scratch.old scratch.new }
 {
-    let mut i = 0;
-    while i < len {
-        let u = byte_at(scratch, LIST + LIST + side % 2 * TERMS + i % TERMS);
-        rise_term(
-            site, triples, rule, starts, count, up, role, first, goal, scratch, numbers, also, u,
-            side,
-        );
-        i += 1;
+    for i in 0..level.len {
+        let t = level.term(scratch, i);
+        rise_term(task, scratch, numbers, level, also, t);
     }
 }
 
 // A move for the step of record r: true where it gives an entry to a term that had none.
-fn reach<'a>(
-    m: Moved,
-    label: Label,
-    up: &'a [u8; RECORDS],
-    role: &'a [u8; RECORDS],
-    goal: Goal,
-    numbers: &mut [u8],
-    r: usize,
-) -> bool
-    requires { Full numbers.old × Climbs records up.now role.now × (r < records) × Tests label r × (m.from < terms) × (m.middle < terms) × (m.to < terms) }
-    ensures { Reached m label up.now role.now (goal_of goal) r (pairs numbers.old) (pairs numbers.new) }
+fn reach(ahead: &Ahead, numbers: &mut [u8; NUMBERS], label: Label, r: usize, m: Moved) -> bool
+    requires { (r < records) × Tests label r × (m.from < terms) × (m.middle < terms) × (m.to < terms) }
+    ensures { Reached m label ahead.now.links.now.up ahead.now.links.now.role (goal_of ahead.now.goal) r (pairs numbers.old) (pairs numbers.new) }
 {
     if number(numbers, r, m.from) < NONE {
         return false;
     }
     if allows(numbers, label, r, m.middle) {
-        let rest = left(numbers, up, role, goal, r, m.to);
+        let rest = left(ahead, numbers, r, m.to);
         return lower(numbers, r, m.from, rest + 1, false);
     }
     false
 }
 
-// Triple k for the step of record r, which is the set `one`.
-fn take<'a>(
-    site: &[u8],
-    triples: usize,
-    rule: &[u8],
-    starts: &[u8; RECORDS],
-    count: usize,
-    up: &'a [u8; RECORDS],
-    role: &'a [u8; RECORDS],
-    first: &'a [u8; RECORDS],
-    goal: Goal,
+// Triple k for a step, which is the set `one`: where it gives a term an entry, that is new at the next level.
+fn take(
+    step: &RuleStep,
     scratch: &mut [u8],
-    numbers: &mut [u8],
-    step: Step,
+    numbers: &mut [u8; NUMBERS],
+    next: &mut Level,
+    one: usize,
     parts: Parts,
-    r: usize,
-    one: usize,
     k: usize,
-    side: usize,
-    len: usize,
-) -> usize
-    requires { Ready site.now triples rule.now starts.now count up.now role.now first.now × Full numbers.old × (r < count) × (k < triples) × Stepping rule.now starts.now r step × (step.axis ≢ 0) × (parts ≡ parts_of step.axis) }
-    ensures { Levelled site.now triples rule.now up.now role.now first.now (goal_of goal) numbers.old numbers.new scratch.old scratch.new }
+)
+    requires { (k < step.now.task.now.site.triples) × TakesBy step.now.read.axis parts }
+    ensures { LevelledFor step.now.task.now numbers.old numbers.new scratch.old scratch.new }
 {
-    let label = step.label;
-    let m = move_at(site, k, parts);
-    let t = m.from;
-    if reach(m, label, up, role, goal, numbers, r) {
-        return note(scratch, side, len, one, t);
+    let task = step.task;
+    let m = move_at(&task.site, k, parts);
+    if reach(&task.ahead, numbers, step.read.label, step.r, m) {
+        next.note(scratch, one, m.from);
     }
-    len
 }
 
-// Each triple by which the step of record r leads to u.
-fn take_all<'a>(
-    site: &[u8],
-    triples: usize,
-    rule: &[u8],
-    starts: &[u8; RECORDS],
-    count: usize,
-    up: &'a [u8; RECORDS],
-    role: &'a [u8; RECORDS],
-    first: &'a [u8; RECORDS],
-    goal: Goal,
+// Each triple by which a step, which has this axis, leads to t.
+fn take_all(
+    step: &RuleStep,
+    axis: Axis,
     scratch: &mut [u8],
-    numbers: &mut [u8],
-    step: Step,
-    r: usize,
+    numbers: &mut [u8; NUMBERS],
+    next: &mut Level,
     one: usize,
-    u: usize,
-    side: usize,
-    was: usize,
-) -> usize
-    requires { Ready site.now triples rule.now starts.now count up.now role.now first.now × Full numbers.old × (r < count) × (u < terms) × Stepping rule.now starts.now r step × (step.axis ≢ 0) }
-    ensures { Levelled site.now triples rule.now up.now role.now first.now (goal_of goal) numbers.old numbers.new scratch.old scratch.new }
+    t: usize,
+)
+    requires { step.now.read.axis ≡ Some axis }
+    ensures { LevelledFor step.now.task.now numbers.old numbers.new scratch.old scratch.new }
 {
-    let axis = step.axis;
+    let site = &step.task.site;
     let parts = parts_of(axis);
-    let mut len = was;
     let by = next_by(inverse(axis));
-    let mut k = first_to(scratch, axis, u);
-    while k < triples {
-        len = take(
-            site, triples, rule, starts, count, up, role, first, goal, scratch, numbers, step,
-            parts, r, one, k, side, len,
-        );
-        k = next_from(site, triples, scratch, by, u, k);
+    let mut k = first_to(scratch, axis, t);
+    while k < site.triples {
+        take(step, scratch, numbers, next, one, parts, k);
+        k = next_from(site, scratch, by, t, k);
     }
-    len
 }
 
-// A self step of record r at u: at its named term, or where u stands in triple k.
-fn rest_at<'a>(
-    site: &[u8],
-    triples: usize,
-    k: usize,
-    up: &'a [u8; RECORDS],
-    role: &'a [u8; RECORDS],
-    goal: Goal,
-    numbers: &mut [u8],
-    label: Label,
-    r: usize,
-    u: usize,
-) -> bool
-    requires { Accepted site.now triples × Full numbers.old × Climbs records up.now role.now × (r < records) × (u < terms) × Tests label r }
-    ensures { Lowers (frame (site_of site.now triples) up.now role.now (goal_of goal)) (work_of self label) r (pairs numbers.old) (pairs numbers.new) }
+// A self step of record r at a term: at its named term, or in the vocabulary.
+fn rest_at(task: &Task, numbers: &mut [u8; NUMBERS], label: Label, r: usize, at: Spot) -> bool
+    requires { (r < records) × Tests label r }
+    ensures { Lowers (framed task.now) (work_of self label) r (pairs numbers.old) (pairs numbers.new) }
 {
-    if let Label::Term(term) = label {
-        if term == u {
-            return rest(up, role, goal, numbers, label, 1, r, u, false);
+    match label {
+        Label::Term(term) if term == at.term => {
+            rest(&task.ahead, numbers, label, 1, r, term, false)
         }
-        return false;
+        Label::Term(_) => false,
+        Label::Any | Label::Test => stay(task, numbers, label, 1, r, at),
     }
-    stay(site, triples, k, up, role, goal, numbers, label, 1, r, u)
 }
 
-// The step of record r, which is open at u.
-fn take_step<'a>(
-    site: &[u8],
-    triples: usize,
-    rule: &[u8],
-    starts: &[u8; RECORDS],
-    count: usize,
-    up: &'a [u8; RECORDS],
-    role: &'a [u8; RECORDS],
-    first: &'a [u8; RECORDS],
-    goal: Goal,
+// A step that is open at t.
+fn take_step(
+    step: &RuleStep,
     scratch: &mut [u8],
-    numbers: &mut [u8],
-    step: Step,
-    r: usize,
+    numbers: &mut [u8; NUMBERS],
+    next: &mut Level,
     one: usize,
-    u: usize,
-    side: usize,
-    len: usize,
-) -> usize
-    requires { Ready site.now triples rule.now starts.now count up.now role.now first.now × Full numbers.old × (r < count) × (u < terms) × Stepping rule.now starts.now r step }
-    ensures { Levelled site.now triples rule.now up.now role.now first.now (goal_of goal) numbers.old numbers.new scratch.old scratch.new }
+    t: usize,
+)
+    requires { t < terms }
+    ensures { LevelledFor step.now.task.now numbers.old numbers.new scratch.old scratch.new }
 {
-    if step.axis != 0 {
-        return take_all(
-            site, triples, rule, starts, count, up, role, first, goal, scratch, numbers, step, r,
-            one, u, side, len,
-        );
-    }
-    let label = step.label;
-    let k = witness(scratch, u);
-    if rest_at(site, triples, k, up, role, goal, numbers, label, r, u) {
-        return note(scratch, side, len, one, u);
-    }
-    len
-}
-
-// Record r, which is open at u if the hint is right.
-fn take_record<'a>(
-    site: &[u8],
-    triples: usize,
-    rule: &[u8],
-    starts: &[u8; RECORDS],
-    count: usize,
-    up: &'a [u8; RECORDS],
-    role: &'a [u8; RECORDS],
-    first: &'a [u8; RECORDS],
-    goal: Goal,
-    scratch: &mut [u8],
-    numbers: &mut [u8],
-    r: usize,
-    one: usize,
-    u: usize,
-    side: usize,
-    len: usize,
-) -> usize
-    requires { Ready site.now triples rule.now starts.now count up.now role.now first.now × Full numbers.old × (u < terms) }
-    ensures { Levelled site.now triples rule.now up.now role.now first.now (goal_of goal) numbers.old numbers.new scratch.old scratch.new }
-{
-    if count <= r {
-        return len;
-    }
-    match record_of(rule, starts, r) {
-        Record::Step(step) => take_step(
-            site, triples, rule, starts, count, up, role, first, goal, scratch, numbers, step, r,
-            one, u, side, len,
-        ),
-        Record::Sequence => len,
-        Record::Choice => len,
-        Record::Star => len,
-    }
-}
-
-// Each step of a set that is open at u.
-fn take_set<'a>(
-    site: &[u8],
-    triples: usize,
-    rule: &[u8],
-    starts: &[u8; RECORDS],
-    count: usize,
-    up: &'a [u8; RECORDS],
-    role: &'a [u8; RECORDS],
-    first: &'a [u8; RECORDS],
-    goal: Goal,
-    scratch: &mut [u8],
-    numbers: &mut [u8],
-    set: usize,
-    u: usize,
-    side: usize,
-    was: usize,
-) -> usize
-    requires { Ready site.now triples rule.now starts.now count up.now role.now first.now × Full numbers.old × (u < terms) }
-    ensures { Levelled site.now triples rule.now up.now role.now first.now (goal_of goal) numbers.old numbers.new scratch.old scratch.new }
-{
-    let mut len = was;
-    let mut rest = set;
-    while rest != 0 {
-        let bit = usize::trailing_zeros(rest) as usize % RECORDS;
-        rest = rest & (rest - 1);
-        len = take_record(
-            site,
-            triples,
-            rule,
-            starts,
-            count,
-            up,
-            role,
-            first,
-            goal,
-            scratch,
-            numbers,
-            step_of(scratch, bit),
-            1usize << bit,
-            u,
-            side,
-            len,
-        );
-    }
-    len
-}
-
-// What is open at u at the level of this side is taken; what is new then stands at the next.
-fn take_term<'a>(
-    site: &[u8],
-    triples: usize,
-    rule: &[u8],
-    starts: &[u8; RECORDS],
-    count: usize,
-    up: &'a [u8; RECORDS],
-    role: &'a [u8; RECORDS],
-    first: &'a [u8; RECORDS],
-    goal: Goal,
-    scratch: &mut [u8],
-    numbers: &mut [u8],
-    u: usize,
-    side: usize,
-    len: usize,
-) -> usize
-    requires { Ready site.now triples rule.now starts.now count up.now role.now first.now × Full numbers.old }
-    ensures { Levelled site.now triples rule.now up.now role.now first.now (goal_of goal) numbers.old numbers.new scratch.old scratch.new }
-{
-    if TERMS <= u {
-        return len;
-    }
-    let set = cell(scratch, NEW + side % 2 * TERMS + u);
-    put_set(scratch, NEW + side % 2 * TERMS + u, 0);
-    take_set(
-        site,
-        triples,
-        rule,
-        starts,
-        count,
-        up,
-        role,
-        first,
-        goal,
-        scratch,
+    if let Some(axis) = step.read.axis {
+        take_all(step, axis, scratch, numbers, next, one, t);
+    } else if rest_at(
+        step.task,
         numbers,
-        set,
-        u,
-        side % 2 + 1,
-        len,
-    )
+        step.read.label,
+        step.r,
+        Spot::of(scratch, t),
+    ) {
+        next.note(scratch, one, t);
+    }
 }
 
-// That at each term of a level. The length of the next.
-fn take_level<'a>(
-    site: &[u8],
-    triples: usize,
-    rule: &[u8],
-    starts: &[u8; RECORDS],
-    count: usize,
-    up: &'a [u8; RECORDS],
-    role: &'a [u8; RECORDS],
-    first: &'a [u8; RECORDS],
-    goal: Goal,
+// Each step of a set that is open at t, as far as the hints are right.
+fn take_set(
+    task: &Task,
     scratch: &mut [u8],
-    numbers: &mut [u8],
-    side: usize,
-    len: usize,
-) -> usize
-    requires { Ready site.now triples rule.now starts.now count up.now role.now first.now × Full numbers.old }
-    ensures { Levelled site.now triples rule.now up.now role.now first.now (goal_of goal) numbers.old numbers.new scratch.old scratch.new }
+    numbers: &mut [u8; NUMBERS],
+    next: &mut Level,
+    set: usize,
+    t: usize,
+)
+    requires { t < terms }
+    ensures { LevelledFor task.now numbers.old numbers.new scratch.old scratch.new }
 {
-    let mut next = 0;
-    let mut i = 0;
-    while i < len {
-        let u = byte_at(scratch, LIST + LIST + side % 2 * TERMS + i % TERMS);
-        next = take_term(
-            site, triples, rule, starts, count, up, role, first, goal, scratch, numbers, u, side,
-            next,
-        );
-        i += 1;
+    for bit in Bits(set) {
+        if let Some(step) = step_at(&*task, step_of(scratch, bit)) {
+            take_step(&step, scratch, numbers, next, 1 << bit, t);
+        }
+    }
+}
+
+// What is open at t at a level is taken; what is new then stands at the next.
+fn take_term(
+    task: &Task,
+    scratch: &mut [u8],
+    numbers: &mut [u8; NUMBERS],
+    level: Level,
+    next: &mut Level,
+    t: usize,
+)
+    requires { t < terms }
+    ensures { LevelledFor task.now numbers.old numbers.new scratch.old scratch.new }
+{
+    let set = level.steps(scratch, t);
+    level.put_steps(scratch, t, 0);
+    take_set(task, scratch, numbers, next, set, t);
+}
+
+// That at each term of a level. The next level.
+fn take_level(task: &Task, scratch: &mut [u8], numbers: &mut [u8; NUMBERS], level: Level) -> Level
+    ensures { LevelledFor task.now numbers.old numbers.new scratch.old scratch.new }
+{
+    let mut next = level.next();
+    for i in 0..level.len {
+        let t = level.term(scratch, i);
+        take_term(task, scratch, numbers, level, &mut next, t);
     }
     next
 }
 
-// The body of root b may finish at t alone: there it may pass empty, and the first level is t. Its length.
-fn begin<'a>(
-    site: &[u8],
-    triples: usize,
-    rule: &[u8],
-    starts: &[u8; RECORDS],
-    count: usize,
-    up: &'a [u8; RECORDS],
-    role: &'a [u8; RECORDS],
-    first: &'a [u8; RECORDS],
-    goal: Goal,
-    scratch: &mut [u8],
-    numbers: &mut [u8],
-    b: usize,
-    t: usize,
-) -> usize
-    requires { Ready site.now triples rule.now starts.now count up.now role.now first.now × Full numbers.old × (t < terms) }
-    ensures { Levelled site.now triples rule.now up.now role.now first.now (goal_of goal) numbers.old numbers.new scratch.old scratch.new }
+// The body of root b may finish at t alone: there it may pass empty, and the first level is t.
+fn begin(task: &Task, scratch: &mut [u8], numbers: &mut [u8; NUMBERS], b: usize, t: usize) -> Level
+    requires { t < terms }
+    ensures { LevelledFor task.now numbers.old numbers.new scratch.old scratch.new }
 {
     put_sets(scratch, DONE, LIST, 0);
-    put_byte(scratch, LIST + LIST, t);
-    let k = witness(scratch, t);
-    if passes(scratch, b, triples, k) {
-        fill_within(
-            site, triples, rule, starts, count, up, role, first, goal, scratch, numbers, b, t, k,
-        );
-    }
-    1
+    let mut level = Level::first();
+    level.push(scratch, t);
+    pass(task, scratch, numbers, b, Spot::of(scratch, t));
+    level
 }
 
 // A body that ends with a star may finish at t: there the star may pass empty, and what may be last is not opened again. Outside
 // the vocabulary a star does not pass empty, so that what may be last is found once more when the star is entered.
-fn finish_at<'a>(
-    site: &[u8],
-    triples: usize,
-    rule: &[u8],
-    starts: &[u8; RECORDS],
-    count: usize,
-    up: &'a [u8; RECORDS],
-    role: &'a [u8; RECORDS],
-    first: &'a [u8; RECORDS],
-    goal: Goal,
-    scratch: &mut [u8],
-    numbers: &mut [u8],
-    b: usize,
-    t: usize,
-)
-    requires { Ready site.now triples rule.now starts.now count up.now role.now first.now × Full numbers.old × (t < terms) }
-    ensures { Levelled site.now triples rule.now up.now role.now first.now (goal_of goal) numbers.old numbers.new scratch.old scratch.new }
+fn finish_at(task: &Task, scratch: &mut [u8], numbers: &mut [u8; NUMBERS], b: usize, t: usize)
+    requires { t < terms }
+    ensures { LevelledFor task.now numbers.old numbers.new scratch.old scratch.new }
 {
-    let k = witness(scratch, t);
-    if triples <= k {
+    let at = Spot::of(scratch, t);
+    if !at.in_vocabulary(&task.site) {
         put_set(scratch, DONE + t, 0);
         return;
     }
-    fill_within(
-        site, triples, rule, starts, count, up, role, first, goal, scratch, numbers, b, t, k,
-    );
+    fill_within(task, scratch, numbers, b, at);
     put_set(scratch, DONE + t, last_in(scratch, b));
 }
 
 // That at each term.
-fn finish_all<'a>(
-    site: &[u8],
-    triples: usize,
-    rule: &[u8],
-    starts: &[u8; RECORDS],
-    count: usize,
-    up: &'a [u8; RECORDS],
-    role: &'a [u8; RECORDS],
-    first: &'a [u8; RECORDS],
-    goal: Goal,
-    scratch: &mut [u8],
-    numbers: &mut [u8],
-    b: usize,
-)
-    requires { Ready site.now triples rule.now starts.now count up.now role.now first.now × Full numbers.old }
-    ensures { Levelled site.now triples rule.now up.now role.now first.now (goal_of goal) numbers.old numbers.new scratch.old scratch.new }
+fn finish_all(task: &Task, scratch: &mut [u8], numbers: &mut [u8; NUMBERS], b: usize)
+    ensures { LevelledFor task.now numbers.old numbers.new scratch.old scratch.new }
 {
-    let mut t = 0;
-    while t < TERMS {
-        finish_at(
-            site, triples, rule, starts, count, up, role, first, goal, scratch, numbers, b, t,
-        );
-        t += 1;
+    for t in 0..TERMS {
+        finish_at(task, scratch, numbers, b, t);
     }
 }
 
 // The body of root b may finish anywhere: what may be last in it is swept, and not opened again.
-fn finish<'a>(
-    site: &[u8],
-    triples: usize,
-    rule: &[u8],
-    starts: &[u8; RECORDS],
-    count: usize,
-    up: &'a [u8; RECORDS],
-    role: &'a [u8; RECORDS],
-    first: &'a [u8; RECORDS],
-    goal: Goal,
-    scratch: &mut [u8],
-    numbers: &mut [u8],
-    b: usize,
-)
-    requires { Ready site.now triples rule.now starts.now count up.now role.now first.now × Full numbers.old }
-    ensures { Levelled site.now triples rule.now up.now role.now first.now (goal_of goal) numbers.old numbers.new scratch.old scratch.new }
+fn finish(task: &Task, scratch: &mut [u8], numbers: &mut [u8; NUMBERS], b: usize)
+    ensures { LevelledFor task.now numbers.old numbers.new scratch.old scratch.new }
 {
     if ends_in_star(scratch, b) {
-        finish_all(
-            site, triples, rule, starts, count, up, role, first, goal, scratch, numbers, b,
-        );
+        finish_all(task, scratch, numbers, b);
         return;
     }
     put_sets(scratch, DONE, LIST, last_in(scratch, b));
 }
 
 // A self step of record r at each term.
-fn rest_all<'a>(
-    site: &[u8],
-    triples: usize,
-    up: &'a [u8; RECORDS],
-    role: &'a [u8; RECORDS],
-    goal: Goal,
-    scratch: &[u8],
-    numbers: &mut [u8],
-    label: Label,
-    r: usize,
-)
-    requires { Accepted site.now triples × Full numbers.old × Climbs records up.now role.now × (r < records) × Tests label r }
-    ensures { Lowers (frame (site_of site.now triples) up.now role.now (goal_of goal)) (work_of self label) r (pairs numbers.old) (pairs numbers.new) }
+fn rest_all(task: &Task, scratch: &[u8], numbers: &mut [u8; NUMBERS], label: Label, r: usize)
+    requires { (r < records) × Tests label r }
+    ensures { Lowers (framed task.now) (work_of self label) r (pairs numbers.old) (pairs numbers.new) }
 {
-    let mut t = 0;
-    while t < TERMS {
-        let k = witness(scratch, t);
-        rest_at(site, triples, k, up, role, goal, numbers, label, r, t);
-        t += 1;
+    for t in 0..TERMS {
+        rest_at(task, numbers, label, r, Spot::of(scratch, t));
     }
 }
 
-// The step of record r, which may be last in a body that may finish anywhere: in the order of the site.
-fn sweep_last<'a>(
-    site: &[u8],
-    triples: usize,
-    rule: &[u8],
-    starts: &[u8; RECORDS],
-    count: usize,
-    up: &'a [u8; RECORDS],
-    role: &'a [u8; RECORDS],
-    first: &'a [u8; RECORDS],
-    goal: Goal,
-    scratch: &[u8],
-    numbers: &mut [u8],
-    step: Step,
-    r: usize,
-)
-    requires { Ready site.now triples rule.now starts.now count up.now role.now first.now × Full numbers.old × (r < count) × Stepping rule.now starts.now r step }
-    ensures { Hinted site.now triples rule.now up.now role.now first.now (goal_of goal) numbers.old numbers.new }
+// A step that may be last in a body that may finish anywhere: in the order of the site.
+fn sweep_last(last: &RuleStep, scratch: &[u8], numbers: &mut [u8; NUMBERS])
+    ensures { HintedFor last.now.task.now numbers.old numbers.new }
 {
-    let label = step.label;
-    if step.axis != 0 {
-        if let Label::Term(term) = label {
-            let by = by_middle(step.axis);
-            sweep_thread(
-                site, scratch, triples, step, by, term, up, role, goal, numbers, r, false,
-            );
-            return;
-        }
-        sweep_axis(site, triples, step, up, role, goal, numbers, r, false);
-        return;
-    }
-    rest_all(site, triples, up, role, goal, scratch, numbers, label, r);
-}
-
-// Record r, which is a step if the hint is right.
-fn sweep_if<'a>(
-    site: &[u8],
-    triples: usize,
-    rule: &[u8],
-    starts: &[u8; RECORDS],
-    count: usize,
-    up: &'a [u8; RECORDS],
-    role: &'a [u8; RECORDS],
-    first: &'a [u8; RECORDS],
-    goal: Goal,
-    scratch: &[u8],
-    numbers: &mut [u8],
-    r: usize,
-)
-    requires { Ready site.now triples rule.now starts.now count up.now role.now first.now × Full numbers.old }
-    ensures { Hinted site.now triples rule.now up.now role.now first.now (goal_of goal) numbers.old numbers.new }
-{
-    if count <= r {
-        return;
-    }
-    if let Record::Step(step) = record_of(rule, starts, r) {
-        sweep_last(
-            site, triples, rule, starts, count, up, role, first, goal, scratch, numbers, step, r,
+    let task = last.task;
+    let label = last.read.label;
+    let Some(axis) = last.read.axis else {
+        return rest_all(task, scratch, numbers, label, last.r);
+    };
+    if let Label::Term(term) = label {
+        let by = by_middle(axis);
+        sweep_thread(
+            &task.site,
+            scratch,
+            axis,
+            label,
+            by,
+            term,
+            &task.ahead,
+            numbers,
+            last.r,
+            false,
         );
+        return;
+    }
+    sweep_axis(&task.site, axis, label, &task.ahead, numbers, last.r, false);
+}
+
+// Record r, which is such a step if the hint is right.
+fn sweep_record(task: &Task, scratch: &[u8], numbers: &mut [u8; NUMBERS], r: usize)
+    ensures { HintedFor task.now numbers.old numbers.new }
+{
+    if let Some(last) = step_at(&*task, r) {
+        sweep_last(&last, scratch, numbers);
     }
 }
 
-// The entry of step record r at t, if it has one, is new at the first level, whose length is handed on.
-fn note_if(numbers: &[u8], scratch: &mut [u8], r: usize, one: usize, t: usize, len: usize) -> usize
-    requires { Full numbers.now × (r < records) × (t < terms) }
+// The entries of step record r are new at the first level.
+fn note_all(numbers: &[u8; NUMBERS], scratch: &mut [u8], level: &mut Level, one: usize, r: usize)
+    requires { r < records }
     ensures { Kept scratch.old scratch.new }
 {
-    if number(numbers, r, t) < NONE {
-        return note(scratch, 0, len, one, t);
+    for t in 0..TERMS {
+        if number(numbers, r, t) < NONE {
+            level.note(scratch, one, t);
+        }
     }
-    len
-}
-
-// That at each term.
-fn note_all(numbers: &[u8], scratch: &mut [u8], r: usize, one: usize, was: usize) -> usize
-    requires { Full numbers.now × (r < records) }
-    ensures { Kept scratch.old scratch.new }
-{
-    let mut len = was;
-    let mut t = 0;
-    while t < TERMS {
-        len = note_if(numbers, scratch, r, one, t, len);
-        t += 1;
-    }
-    len
 }
 
 // The first level of a body that may finish anywhere: what may be last in it is swept, and what it gives is new.
-fn begin_all<'a>(
-    site: &[u8],
-    triples: usize,
-    rule: &[u8],
-    starts: &[u8; RECORDS],
-    count: usize,
-    up: &'a [u8; RECORDS],
-    role: &'a [u8; RECORDS],
-    first: &'a [u8; RECORDS],
-    goal: Goal,
-    scratch: &mut [u8],
-    numbers: &mut [u8],
-    b: usize,
-) -> usize
-    requires { Ready site.now triples rule.now starts.now count up.now role.now first.now × Full numbers.old }
-    ensures { Levelled site.now triples rule.now up.now role.now first.now (goal_of goal) numbers.old numbers.new scratch.old scratch.new }
+fn begin_all(task: &Task, scratch: &mut [u8], numbers: &mut [u8; NUMBERS], b: usize) -> Level
+    ensures { LevelledFor task.now numbers.old numbers.new scratch.old scratch.new }
 {
-    finish(
-        site, triples, rule, starts, count, up, role, first, goal, scratch, numbers, b,
-    );
-    let mut len = 0;
-    let mut rest = last_in(scratch, b);
-    while rest != 0 {
-        let bit = usize::trailing_zeros(rest) as usize % RECORDS;
-        rest = rest & (rest - 1);
+    finish(task, scratch, numbers, b);
+    let mut level = Level::first();
+    for bit in Bits(last_in(scratch, b)) {
         let r = step_of(scratch, bit);
-        sweep_if(
-            site, triples, rule, starts, count, up, role, first, goal, scratch, numbers, r,
-        );
-        len = note_all(numbers, scratch, r, 1usize << bit, len);
+        sweep_record(task, scratch, numbers, r);
+        note_all(numbers, scratch, &mut level, 1 << bit, r);
     }
-    len
+    level
 }
 
-// The first level of the body of root b: a test finishes anywhere, the rule's own body where the goal allows it.
-fn begin_body<'a>(
-    site: &[u8],
-    triples: usize,
-    rule: &[u8],
-    starts: &[u8; RECORDS],
-    count: usize,
-    up: &'a [u8; RECORDS],
-    role: &'a [u8; RECORDS],
-    first: &'a [u8; RECORDS],
-    goal: Goal,
-    scratch: &mut [u8],
-    numbers: &mut [u8],
-    b: usize,
-) -> usize
-    requires { Ready site.now triples rule.now starts.now count up.now role.now first.now × Full numbers.old × (b < records) }
-    ensures { Levelled site.now triples rule.now up.now role.now first.now (goal_of goal) numbers.old numbers.new scratch.old scratch.new }
-{
-    if role[b] == AS_WHOLE {
-        if let Goal::End(end) = goal {
-            return begin_if(
-                site, triples, rule, starts, count, up, role, first, goal, scratch, numbers, b, end,
-            );
-        }
-    }
-    begin_all(
-        site, triples, rule, starts, count, up, role, first, goal, scratch, numbers, b,
-    )
-}
-
-// The rule's own body may finish at the end alone.
-fn begin_if<'a>(
-    site: &[u8],
-    triples: usize,
-    rule: &[u8],
-    starts: &[u8; RECORDS],
-    count: usize,
-    up: &'a [u8; RECORDS],
-    role: &'a [u8; RECORDS],
-    first: &'a [u8; RECORDS],
-    goal: Goal,
-    scratch: &mut [u8],
-    numbers: &mut [u8],
-    b: usize,
-    end: usize,
-) -> usize
-    requires { Ready site.now triples rule.now starts.now count up.now role.now first.now × Full numbers.old }
-    ensures { Levelled site.now triples rule.now up.now role.now first.now (goal_of goal) numbers.old numbers.new scratch.old scratch.new }
-{
-    if TERMS <= end {
-        return 0;
-    }
-    begin(
-        site, triples, rule, starts, count, up, role, first, goal, scratch, numbers, b, end,
-    )
-}
-
-// What is open at the first level of the body of root b with nothing new: what may be last in it, if it finishes at the end alone.
-fn opening<'a>(role: &'a [u8; RECORDS], goal: Goal, scratch: &[u8], b: usize) -> usize
+// The one term at which the body of root b may finish: a test finishes anywhere, the rule's own body where the goal allows it.
+fn only_end(ahead: &Ahead, b: usize) -> Option<usize>
     requires { b < records }
 {
-    if role[b] == AS_WHOLE {
-        if let Goal::End(_) = goal {
-            return last_in(scratch, b);
-        }
+    match ahead.goal {
+        Goal::End(end) if ahead.links.role(b) == Role::Whole => Some(end),
+        _ => None,
     }
-    0
+}
+
+// The first level of the body of root b.
+fn begin_body(
+    task: &Task,
+    scratch: &mut [u8],
+    numbers: &mut [u8; NUMBERS],
+    b: usize,
+    end: Option<usize>,
+) -> Level
+    ensures { LevelledFor task.now numbers.old numbers.new scratch.old scratch.new }
+{
+    match end {
+        None => begin_all(task, scratch, numbers, b),
+        Some(end) if end < TERMS => begin(task, scratch, numbers, b, end),
+        Some(_) => Level::first(),
+    }
 }
 
 // Level after level, until one is empty; there are never more levels than entries. All of a level rises before any of it is taken,
 // for what is taken is new at the next alone. At the first, the steps of `opening` are open too.
-fn run_levels<'a>(
-    site: &[u8],
-    triples: usize,
-    rule: &[u8],
-    starts: &[u8; RECORDS],
-    count: usize,
-    up: &'a [u8; RECORDS],
-    role: &'a [u8; RECORDS],
-    first: &'a [u8; RECORDS],
-    goal: Goal,
+fn run_levels(
+    task: &Task,
     scratch: &mut [u8],
-    numbers: &mut [u8],
-    begun: usize,
+    numbers: &mut [u8; NUMBERS],
+    first: Level,
     opening: usize,
 )
-    requires { Ready site.now triples rule.now starts.now count up.now role.now first.now × Full numbers.old }
-    ensures { Levelled site.now triples rule.now up.now role.now first.now (goal_of goal) numbers.old numbers.new scratch.old scratch.new }
+    ensures { LevelledFor task.now numbers.old numbers.new scratch.old scratch.new }
 {
-    let mut len = begun;
-    let mut side = 0;
+    let mut level = first;
     let mut also = opening;
-    while 0 < len {
-        if RECORDS * TERMS <= side {
+    for _ in 0..ENTRIES {
+        if level.len == 0 {
             return;
         }
-        rise_level(
-            site, triples, rule, starts, count, up, role, first, goal, scratch, numbers, also,
-            side, len,
-        );
-        len = take_level(
-            site, triples, rule, starts, count, up, role, first, goal, scratch, numbers, side, len,
-        );
-        side += 1;
+        rise_level(task, scratch, numbers, level, also);
+        level = take_level(task, scratch, numbers, level);
         also = 0;
     }
 }
 
-// What may be last and what may come before in the body of root b.
-fn prepare<'a>(
-    rule: &[u8],
-    starts: &[u8; RECORDS],
-    first: &'a [u8; RECORDS],
-    scratch: &mut [u8],
-    b: usize,
-)
+// The entries of the body of root b. If it may finish at one term alone, what may be last in it is open there with nothing new.
+fn search(task: &Task, scratch: &mut [u8], numbers: &mut [u8; NUMBERS], b: usize)
     requires { b < records }
-    ensures { Kept scratch.old scratch.new }
+    ensures { LevelledFor task.now numbers.old numbers.new scratch.old scratch.new }
 {
-    lasts(rule, starts, first, b, scratch);
-    befores(rule, starts, first, b, scratch);
-}
-
-// The entries of the body of root b.
-fn search<'a>(
-    site: &[u8],
-    triples: usize,
-    rule: &[u8],
-    starts: &[u8; RECORDS],
-    count: usize,
-    up: &'a [u8; RECORDS],
-    role: &'a [u8; RECORDS],
-    first: &'a [u8; RECORDS],
-    goal: Goal,
-    scratch: &mut [u8],
-    numbers: &mut [u8],
-    b: usize,
-)
-    requires { Ready site.now triples rule.now starts.now count up.now role.now first.now × Full numbers.old × (b < records) }
-    ensures { Levelled site.now triples rule.now up.now role.now first.now (goal_of goal) numbers.old numbers.new scratch.old scratch.new }
-{
-    prepare(rule, starts, first, scratch, b);
-    let begun = begin_body(
-        site, triples, rule, starts, count, up, role, first, goal, scratch, numbers, b,
-    );
-    let opens = opening(role, goal, scratch, b);
-    run_levels(
-        site, triples, rule, starts, count, up, role, first, goal, scratch, numbers, begun, opens,
-    )
-}
-
-// The body of root b, if there is one.
-fn search_if<'a>(
-    site: &[u8],
-    triples: usize,
-    rule: &[u8],
-    starts: &[u8; RECORDS],
-    count: usize,
-    up: &'a [u8; RECORDS],
-    role: &'a [u8; RECORDS],
-    first: &'a [u8; RECORDS],
-    goal: Goal,
-    scratch: &mut [u8],
-    numbers: &mut [u8],
-    b: usize,
-)
-    requires { Ready site.now triples rule.now starts.now count up.now role.now first.now × Full numbers.old × (b < records) }
-    ensures { Levelled site.now triples rule.now up.now role.now first.now (goal_of goal) numbers.old numbers.new scratch.old scratch.new }
-{
-    if root_of(scratch, b) == b {
-        search(
-            site, triples, rule, starts, count, up, role, first, goal, scratch, numbers, b,
-        );
-    }
+    let links = task.ahead.links;
+    lasts(&task.rule, links, b, scratch);
+    befores(&task.rule, links, b, scratch);
+    let end = only_end(&task.ahead, b);
+    let level = begin_body(task, scratch, numbers, b, end);
+    let opening = if end.is_some() {
+        last_in(scratch, b)
+    } else {
+        0
+    };
+    run_levels(task, scratch, numbers, level, opening)
 }
 
 // Body after body, the inner ones first: a test's last record stands before the step's.
-fn search_all<'a>(
-    site: &[u8],
-    triples: usize,
-    rule: &[u8],
-    starts: &[u8; RECORDS],
-    count: usize,
-    up: &'a [u8; RECORDS],
-    role: &'a [u8; RECORDS],
-    first: &'a [u8; RECORDS],
-    goal: Goal,
-    scratch: &mut [u8],
-    numbers: &mut [u8],
-)
-    requires { Ready site.now triples rule.now starts.now count up.now role.now first.now × Full numbers.old }
-    ensures { Levelled site.now triples rule.now up.now role.now first.now (goal_of goal) numbers.old numbers.new scratch.old scratch.new }
+fn search_all(task: &Task, scratch: &mut [u8], numbers: &mut [u8; NUMBERS])
+    ensures { LevelledFor task.now numbers.old numbers.new scratch.old scratch.new }
 {
-    let mut b = 0;
-    while b < RECORDS {
-        if count <= b {
-            return;
+    for b in 0..task.rule.count.min(RECORDS) {
+        if root_of(scratch, b) == b {
+            search(task, scratch, numbers, b);
         }
-        search_if(
-            site, triples, rule, starts, count, up, role, first, goal, scratch, numbers, b,
-        );
-        b += 1;
     }
 }
 
 // The whole table. The threads stand afterwards.
-pub fn levels<'a>(
-    site: &[u8],
-    triples: usize,
-    rule: &[u8],
-    starts: &[u8; RECORDS],
-    count: usize,
-    up: &'a [u8; RECORDS],
-    role: &'a [u8; RECORDS],
-    first: &'a [u8; RECORDS],
-    goal: Goal,
-    scratch: &mut [u8],
-    numbers: &mut [u8],
-)
-    requires { Ready site.now triples rule.now starts.now count up.now role.now first.now × Full numbers.old × (length scratch.old ≡ records * terms) }
-    ensures { Hinted site.now triples rule.now up.now role.now first.now (goal_of goal) numbers.old numbers.new × Threads site.now triples scratch.new }
+pub fn levels(task: &Task, scratch: &mut [u8; ENTRIES], numbers: &mut [u8; NUMBERS])
+    ensures { HintedFor task.now numbers.old numbers.new × ThreadsOf task.now scratch.new }
 {
-    thread(site, triples, scratch);
-    sizes(rule, starts, count, first, scratch);
-    orders(rule, starts, count, first, scratch);
+    let links = task.ahead.links;
+    thread(&task.site, scratch);
+    sizes(&task.rule, links, scratch);
+    orders(&task.rule, links, scratch);
     put_sets(scratch, NEW, DONE, 0);
-    search_all(
-        site, triples, rule, starts, count, up, role, first, goal, scratch, numbers,
-    )
+    search_all(task, scratch, numbers)
 }

@@ -6,6 +6,7 @@ use mathlib.Core.Logic.{◌↔◌}
 use mathlib.Core.List.{List}
 use native.Mathlib.Omega.{arith}
 use lib.ListN.{get_or}
+use Rattle.std.specs.Prelude.{Option}
 use Rattle.meaning.specs.Limits.{terms, none}
 use Rattle.meaning.specs.Site.{Site, Within}
 use Rattle.meaning.specs.Move.{Axis, Move, any}
@@ -21,7 +22,6 @@ use Rattle.fewest.specs.declared.links.Links.{Links}
 use Rattle.fewest.specs.Frame.{Frame}
 use Rattle.fewest.specs.Offer.{view, Continues}
 use Rattle.fewest.proofs.Roles.{along, operand_before, left_continues, continues_left}
-use Rattle.path.specs.declared.Stand.{Stand}
 use Rattle.path.specs.Pick.{Carries, by_step, by_test, Candidate}
 use Rattle.path.specs.Walking.{Known, Stands}
 use Rattle.path.proofs.Remaining.{left_fewest}
@@ -89,7 +89,7 @@ module _ {rs : List Rec} {rule : Expr} {L : Links} {s : Site} {g : Goal} {T : Li
   fewest_left : (e : Expr) (K : Context) {u d : ℕ} → plug e K ≡ rule → u < terms → Fewest (Way s g (finished e K u)) d → left (view T) g e K u ≡ d
   fewest_left e K {u} p b f = fewest_unique (left_fewest (view T) known.numbers e K p u b) f
 
-  module _ {z : Stand} {t d k u : ℕ} {y : State} (stands : Stands rule z t y) (b : t < terms) where
+  module _ {z : Option ℕ} {t d k u : ℕ} {y : State} (stands : Stands rule z t y) (b : t < terms) where
     node_offers : {r : ℕ} (e : Expr) (K : Context) → Opens s y e K → last e ≡ r → Candidate (along L s g) T rs L.first z t d r k u →
         (u < terms) × Offers s y e K k u × Fewest (Way s g (finished e K u)) d
     node_offers e K opens q c =

@@ -7,16 +7,16 @@ use mathlib.Core.Bool.{true}
 use mathlib.Core.List.{List}
 use native.Mathlib.Omega.{arith}
 use lib.ListN.{length, get_or}
-use lib.Dec.{eqb}
-use borrow.Author.Tests.{eqb-true, ltb-true, eq-eqb, lt-ltb, ne_eqb}
+use borrow.Author.Tests.{eqb-true, ltb-true, eq-eqb, lt-ltb}
 use Rattle.meaning.specs.Limits.{none}
 use Rattle.meaning.specs.Site.{Site}
-use Rattle.meaning.specs.Move.{Axis, self, ahead, inverse, next, edge, node, Direction, Label, any, Allows, Stays, Move, staying, going, coming}
+use Rattle.meaning.specs.Move.{Axis, self, Label, any, Allows, Stays, Move, staying, going, coming}
 use Rattle.meaning.specs.Expression.{Rec, plain, testing, joining, choosing, starring}
+use Rattle.records.specs.declared.Axis.{Axis as CodeAxis}
+use Rattle.records.specs.declared.Axis.TheVariants as axes
 use Rattle.records.specs.declared.Label as code
 use Rattle.records.specs.declared.Label.TheVariants.{Any, Term, Test}
-use Rattle.records.specs.Rules.{axis_numbered, labelled}
-use Rattle.records.proofs.Tests.{by_test}
+use Rattle.records.specs.Rules.{axis_of, labelled}
 use Rattle.fewest.specs.Frame.{Frame}
 use Rattle.fewest.specs.Offer.{view}
 use Rattle.fewest.specs.Work.{allowing}
@@ -55,29 +55,14 @@ below n (coming x _) = x.below
 stays : {s : Site} {l : Label} {k t m u : ℕ} → Move s self l k t m u → Stays s l k t m u
 stays (staying x) = x
 
--- self is number 0, and every other axis takes triples
-pub stays_put : (a : ℕ) → a ≡ 0 → axis_numbered a ≡ self
-unfolding axis_numbered
-stays_put a e = rw (eq-eqb a 0 e)
-
-pub goes : (a : ℕ) → a ≢ 0 → axis_numbered a ≢ self
-unfolding axis_numbered
-goes a n =
-    rw (ne_eqb a 0 n)
-    (by_test Goes (eqb a 1) (λ e. forth next)
-    (λ e. by_test Goes (eqb a 2) (λ e. back next)
-    (λ e. by_test Goes (eqb a 3) (λ e. forth edge)
-    (λ e. by_test Goes (eqb a 4) (λ e. back edge)
-    (λ e. by_test Goes (eqb a 5) (λ e. forth node) (λ e. back node))))))
-  where
-    Goes : Axis → Type 0
-    Goes x = x ≢ self
-
-    forth : (d : Direction) → ahead d ≢ self
-    forth d e = let z : ◌≡◌ {A = ℕ} 0 1 = cc in omega arith
-
-    back : (d : Direction) → inverse d ≢ self
-    back d e = let z : ◌≡◌ {A = ℕ} 0 1 = cc in omega arith
+-- every axis of the code takes triples
+pub goes : (a : CodeAxis) → axis_of a ≢ self
+goes axes.Next e = let z : ◌≡◌ {A = ℕ} 0 1 = cc in omega arith
+goes axes.NextInverse e = let z : ◌≡◌ {A = ℕ} 0 1 = cc in omega arith
+goes axes.Edge e = let z : ◌≡◌ {A = ℕ} 0 1 = cc in omega arith
+goes axes.EdgeInverse e = let z : ◌≡◌ {A = ℕ} 0 1 = cc in omega arith
+goes axes.Node e = let z : ◌≡◌ {A = ℕ} 0 1 = cc in omega arith
+goes axes.NodeInverse e = let z : ◌≡◌ {A = ℕ} 0 1 = cc in omega arith
 
 module _ {F : Frame} {T : List ℕ} {rs : List Rec} {r k t u : ℕ} where
   -- Along an axis that takes triples: a move whose middle the label lets pass.

@@ -10,9 +10,9 @@ use lib.ListN.{get_or}
 use Rattle.meaning.specs.Limits.{records}
 use Rattle.fewest.specs.Frame.{Frame, as_first, as_round}
 use Rattle.fewest.specs.Next.{Next, on, again, ending}
-use Rattle.fewest.specs.Sweep.{sum, Swept}
+use Rattle.fewest.specs.Sweep.{Swept}
 use Rattle.fewest.proofs.Sweeps.{swept_none, swept_then, swept_weaken, swept_lift}
-use Rattle.path.specs.Flags.{Open, Opens, Opening, linked}
+use Rattle.path.specs.Flags.{Open, closed, Opens, Opening, linked}
 use Rattle.path.proofs.Opening.{opens_chain, opens_more, opening_none}
 
 -- what comes next, by the record's role
@@ -25,25 +25,25 @@ next_cases (ending e n) = inr (e, inr n)
 
 -- The walk up the links from record r is at a record: what comes next there comes next after r, and what comes next after r
 -- is open or comes next there.
-pub record Climbing (up role : List ℕ) (r : ℕ) (X Y : List ℕ) (was now : Bool) (at : ℕ) : Type 0 where
+pub record Climbing (up role : List ℕ) (r : ℕ) (X Y : List Bool) (was now : Bool) (at : ℕ) : Type 0 where
   pub inside : at < records
   pub onward : (b : ℕ) → Next (linked up role) at b → Next (linked up role) r b
-  pub swept : Swept sum (Opens (Next (linked up role) r)) (λ Z. (b : ℕ) → Next (linked up role) r b → Open Z b ⊎ Next (linked up role) at b) X Y was now
+  pub swept : Swept closed (Opens (Next (linked up role) r)) (λ Z. (b : ℕ) → Next (linked up role) r b → Open Z b ⊎ Next (linked up role) at b) X Y was now
 
 module _ {up role : List ℕ} {r : ℕ} where
-  pub climb_begins : {X : List ℕ} {was : Bool} → r < records → Climbing up role r X X was was r
+  pub climb_begins : {X : List Bool} {was : Bool} → r < records → Climbing up role r X X was was r
   climb_begins h = record { inside = h; onward = λ b n. n; swept = swept_none (opens_chain (Next (linked up role) r)) (λ b. inr) }
 
-  module _ {X Y : List ℕ} {was now : Bool} {at : ℕ} (climb : Climbing up role r X Y was now at) where
+  module _ {X Y : List Bool} {was now : Bool} {at : ℕ} (climb : Climbing up role r X Y was now at) where
     -- what is opened where the walk is, and what is left to be opened
-    climbs : {P M : ℕ → Type 0} {Z : List ℕ} {then : Bool} → Opening P Y Z now then → ((b : ℕ) → P b → Next (linked up role) at b) →
+    climbs : {P M : ℕ → Type 0} {Z : List Bool} {then : Bool} → Opening P Y Z now then → ((b : ℕ) → P b → Next (linked up role) at b) →
         ((b : ℕ) → Next (linked up role) at b → P b ⊎ M b) →
-        Swept sum (Opens (Next (linked up role) r)) (λ Z. (b : ℕ) → Next (linked up role) r b → Open Z b ⊎ M b) X Z was then
+        Swept closed (Opens (Next (linked up role) r)) (λ Z. (b : ℕ) → Next (linked up role) r b → Open Z b ⊎ M b) X Z was then
     climbs p f g =
         swept_weaken (λ h b n. ⊎_elim inl (λ m. ⊎_elim (λ q. inl (h.1 b q)) inr (g b m)) (h.0 b n))
         (swept_then (opens_chain (Next (linked up role) r)) climb.swept (swept_lift (opens_more (λ b q. climb.onward b (f b q))) p))
 
-    ended : {P : ℕ → Type 0} {Z : List ℕ} {then : Bool} → Opening P Y Z now then → ((b : ℕ) → P b → Next (linked up role) at b) →
+    ended : {P : ℕ → Type 0} {Z : List Bool} {then : Bool} → Opening P Y Z now then → ((b : ℕ) → P b → Next (linked up role) at b) →
         ((b : ℕ) → Next (linked up role) at b → P b) → Opening (Next (linked up role) r) X Z was then
     ended p f g = swept_weaken (λ h b n. ⊎_elim (λ o. o) absurd (h b n)) (climbs {M = λ b. ⊥} p f (λ b n. inl (g b n)))
 
@@ -52,12 +52,12 @@ module _ {up role : List ℕ} {r : ℕ} where
     climb_ends l = ended {P = λ b. ⊥} (opening_none (λ b. absurd)) (λ b. absurd)
         (λ b n. ⊎_elim (λ q. let e = q.0 in omega arith) (λ q. let e = q.0 in omega arith) (next_cases n))
 
-    pub climb_first : {Z : List ℕ} {then : Bool} → get_or role at 0 ≡ as_first → Opening (λ b. b ≡ get_or up at 0 - 1) Y Z now then →
+    pub climb_first : {Z : List Bool} {then : Bool} → get_or role at 0 ≡ as_first → Opening (λ b. b ≡ get_or up at 0 - 1) Y Z now then →
         Opening (Next (linked up role) r) X Z was then
     climb_first e p = ended p (λ b q. rw q (on e)) (λ b n. ⊎_elim (λ q. q.1) (λ q. let l = q.0 in absurd (omega arith)) (next_cases n))
 
     -- One star up: its operand may run again.
-    pub climb_up : {Z : List ℕ} {then : Bool} → get_or up at 0 < records → get_or role at 0 ≡ as_round →
+    pub climb_up : {Z : List Bool} {then : Bool} → get_or up at 0 < records → get_or role at 0 ≡ as_round →
         Opening (λ b. b ≡ get_or up at 0 - 1) Y Z now then → Climbing up role r X Z was then (get_or up at 0)
     climb_up h e p = record {
       inside = h;

@@ -7,6 +7,7 @@ use mathlib.Core.List.{List, Memᴰ}
 use mathlib.Core.List.Memᴰ
 use native.Mathlib.Omega.{arith}
 use lib.ListN.{length, get_or}
+use Rattle.std.specs.Prelude.{Option, Some}
 use Rattle.meaning.specs.Site.{Site, Voc}
 use Rattle.meaning.specs.Expression.{Rec, plain, testing, joining, choosing, starring, Expr, step, tested, sequence, choice, star, last, Expression, Context, whole, test, first_of, second_of, one_of, other_of, round_of, plug}
 use Rattle.meaning.specs.Fewest.{Goal, State, entered, finished, Free, sequence_in, sequence_on, sequence_out, one_in, one_out, other_in, other_out, round_in, round_empty, round_again, round_out}
@@ -22,22 +23,20 @@ use Rattle.fewest.proofs.Roles.{along, operand_before}
 use Rattle.fewest.proofs.Nexts.{role_next, next_as}
 use Rattle.fewest.proofs.Works.{works, record_works}
 use Rattle.fewest.proofs.Bridge.{node_record}
-use Rattle.path.specs.declared.Stand.{Stand}
-use Rattle.path.specs.declared.Stand.TheVariants.{After}
 use Rattle.path.specs.Pick.{Enters, begin, after, inward, past}
 use Rattle.path.specs.Walking.{Stands, at_begin, at_end}
 
 -- the state is one of the rule's, at the term of the stand
-pub stands_rule : {rule : Expr} {x : Stand} {t : ℕ} {y : State} → Stands rule x t y → rule_of y ≡ rule
+pub stands_rule : {rule : Expr} {x : Option ℕ} {t : ℕ} {y : State} → Stands rule x t y → rule_of y ≡ rule
 stands_rule at_begin = refl
 stands_rule (at_end p q) = p
 
-pub stands_place : {rule : Expr} {x : Stand} {t : ℕ} {y : State} → Stands rule x t y → place y ≡ t
+pub stands_place : {rule : Expr} {x : Option ℕ} {t : ℕ} {y : State} → Stands rule x t y → place y ≡ t
 stands_place at_begin = refl
 stands_place (at_end p q) = refl
 
 -- the record after which the walk stands is one of the rule's
-pub stands_record : {rs : List Rec} {rule : Expr} {r t : ℕ} {y : State} → Expression rs rule → Stands rule (After r) t y → r < length rs
+pub stands_record : {rs : List Rec} {rule : Expr} {r t : ℕ} {y : State} → Expression rs rule → Stands rule (Some r) t y → r < length rs
 stands_record x (at_end {e} {K} p q) = omega (arith, node_record x e K p)
 
 -- the whole rule is named by the last record of all
@@ -90,7 +89,7 @@ IsStar choosing = ⊥
 IsStar starring = Unit
 
 -- what a stand admits of a state: that its expression is entered, or what comes next once it is finished
-abbrev Admits : Frame → List Rec → List ℕ → Stand → State → Type 0
+abbrev Admits : Frame → List Rec → List ℕ → Option ℕ → State → Type 0
 Admits F rs first z (entered e K t) = Enters F rs first t z (last e)
 Admits F rs first z (finished e K t) = (b : ℕ) → Next F (last e) b → Enters F rs first t z b
 
@@ -123,7 +122,7 @@ module _ {rs : List Rec} {rule : Expr} {L : Links} (x : Expression rs rule) (lin
   star_opens (choice _ _ _) K p q v n = elim q [ ]
 
   -- What may be entered where the walk stands, free moves of its state lead to.
-  pub enters_opens : {y : State} {t : ℕ} {z : Stand} {b : ℕ} → Stands rule z t y → Enters (along L s g) rs L.first t z b → OpensRecord s y b
+  pub enters_opens : {y : State} {t : ℕ} {z : Option ℕ} {b : ℕ} → Stands rule z t y → Enters (along L s g) rs L.first t z b → OpensRecord s y b
   enters_opens at_begin (begin h) = (rule, whole, here, omega (arith, rule_last x))
   enters_opens (at_end {e} {K} p q) (after n) = next_opens e K p (rw (← q) at n)
   enters_opens {t = t} stands (inward i h m) =
@@ -137,7 +136,7 @@ module _ {rs : List Rec} {rule : Expr} {L : Links} (x : Expression rs rule) (lin
 
 module _ {rs : List Rec} {rule : Expr} {L : Links} (x : Expression rs rule) (linked : Linked rule L) (s : Site) (g : Goal) where
   -- the record whose row a subexpression copies is entered where it is
-  copy_enters : {z : Stand} {t b : ℕ} (e : Expr) (K : Context) → plug e K ≡ rule → Memᴰ (copying b) (works e) →
+  copy_enters : {z : Option ℕ} {t b : ℕ} (e : Expr) (K : Context) → plug e K ≡ rule → Memᴰ (copying b) (works e) →
       Enters (along L s g) rs L.first t z (last e) → Enters (along L s g) rs L.first t z b
   copy_enters {b = b} e K p m i = inward {b = b} i (node_record x e K p) (rw (record_works x linked e K p) m)
 
@@ -147,7 +146,7 @@ module _ {rs : List Rec} {rule : Expr} {L : Links} (x : Expression rs rule) (lin
   before_next e K p q = subst (λ c. Next (along L s g) (last e) c) (ap (λ c. c - 1) (linked.ups e K p) ∙ q)
 
   -- a free move leads to what is admitted
-  free_admits : (z : Stand) {v w : State} → Free s v w → rule_of v ≡ rule → Admits (along L s g) rs L.first z v → Admits (along L s g) rs L.first z w
+  free_admits : (z : Option ℕ) {v w : State} → Free s v w → rule_of v ≡ rule → Admits (along L s g) rs L.first z v → Admits (along L s g) rs L.first z w
   free_admits z (sequence_in {r} {a} {b} {K}) p i = copy_enters (sequence r a b) K p (Memᴰ.head refl) i
   free_admits z (sequence_on {r} {a} {b} {K}) p f =
       let q = operand_before x.numbered (sequence r a b) K p in
@@ -167,16 +166,16 @@ module _ {rs : List Rec} {rule : Expr} {L : Links} (x : Expression rs rule) (lin
       f (last a) (before_next a (round_of r K) p q (again (linked.roles a (round_of r K) p)))
   free_admits z (round_out {r} {a} {K}) p f = λ c n. f c (ending {b = c} (linked.roles a (round_of r K) p) (rw (linked.ups a (round_of r K) p) n))
 
-  opens_admits : (z : Stand) {v : State} {e : Expr} {K : Context} → Opens s v e K → rule_of v ≡ rule → Admits (along L s g) rs L.first z v →
+  opens_admits : (z : Option ℕ) {v : State} {e : Expr} {K : Context} → Opens s v e K → rule_of v ≡ rule → Admits (along L s g) rs L.first z v →
       Enters (along L s g) rs L.first (place v) z (last e)
   opens_admits z here p i = i
   opens_admits z (through f o) p i = rw (← (free_keeps f).0) (opens_admits z o ((free_keeps f).1 ∙ p) (free_admits z f p i))
 
-  stands_admits : {z : Stand} {t : ℕ} {y : State} → Stands rule z t y → Admits (along L s g) rs L.first z y
+  stands_admits : {z : Option ℕ} {t : ℕ} {y : State} → Stands rule z t y → Admits (along L s g) rs L.first z y
   stands_admits at_begin = begin {b = last rule} (rule_last x)
   stands_admits (at_end p q) = λ b n. after (rw q at n)
 
   -- What free moves of its state lead to may be entered where the walk stands.
-  pub opens_enters : {z : Stand} {t : ℕ} {y : State} {e : Expr} {K : Context} → Stands rule z t y → Opens s y e K →
+  pub opens_enters : {z : Option ℕ} {t : ℕ} {y : State} {e : Expr} {K : Context} → Stands rule z t y → Opens s y e K →
       Enters (along L s g) rs L.first t z (last e)
   opens_enters {z} stands o = rw (← stands_place stands) (opens_admits z o (stands_rule stands) (stands_admits stands))

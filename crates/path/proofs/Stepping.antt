@@ -10,21 +10,22 @@ use native.Mathlib.Decide.{dec_lt}
 use lib.ListN.{length, get_or}
 use lib.Dec.{eqb}
 use borrow.Author.Tests.{eqb-true, eqb-false}
+use Rattle.std.specs.Prelude.{Some, None}
 use Rattle.meaning.specs.Limits as limits
 use Rattle.meaning.specs.Site.{Site, triple}
 use Rattle.meaning.specs.Move.{Axis, self, ahead, inverse, any, Move, going, coming}
 use Rattle.meaning.specs.Expression.{Rec, starring}
 use Rattle.meaning.specs.Fewest.{Goal}
+use Rattle.records.specs.declared.Axis.{Axis as CodeAxis}
 use Rattle.records.specs.declared.Label.{Label}
 use Rattle.records.specs.Sites.{site_of}
-use Rattle.records.specs.Rules.{axis_numbered, labelled}
+use Rattle.records.specs.Rules.{axis_of, labelled}
 use Rattle.records.proofs.Sites.{length-site_of}
 use Rattle.fewest.specs.declared.look.Moved.{Moved}
 use Rattle.fewest.specs.Frame.{Frame, frame}
 use Rattle.fewest.specs.Work.{Least, allowing}
 use Rattle.fewest.specs.Threads.{FirstWith, start_along, start_by}
 use Rattle.fewest.proofs.Axes as axes
-use Rattle.path.specs.declared.Pick.TheVariants.{Step, Nothing}
 use Rattle.fewest.specs.Tells.{Tells, holds, fails}
 use Rattle.path.specs.Offers.{Suits, Stay, Smallest, found, none, Serves, SmallestBy}
 use Rattle.fewest.proofs.Tells.{told, told_not}
@@ -55,10 +56,10 @@ module _ {s : Site} {up role : List ℕ} {g : Goal} {T : List ℕ} {l : Label} {
 
 -- one record's smallest step is told by its triples
 module _ (C : ℕ → ℕ → ℕ → Type 0) (r : ℕ) where
-  pub smallest_at : {k u : ℕ} → C r k u → ((j v : ℕ) → C r j v → k ≤ j) → Smallest (λ q j v. (q ≡ r) × C q j v) (Step (record { by = r; over = k; to = u }))
+  pub smallest_at : {k u : ℕ} → C r k u → ((j v : ℕ) → C r j v → k ≤ j) → Smallest (λ q j v. (q ≡ r) × C q j v) (Some (record { by = r; over = k; to = u }))
   smallest_at c f = found (refl, c) (λ q j v x. inr (sym x.0, f j v (subst (λ q. C q j v) x.0 x.1)))
 
-  pub smallest_none : ((j v : ℕ) → C r j v → ⊥) → Smallest (λ q j v. (q ≡ r) × C q j v) Nothing
+  pub smallest_none : ((j v : ℕ) → C r j v → ⊥) → Smallest (λ q j v. (q ≡ r) × C q j v) None
   smallest_none f = none (λ q j v x. f j v (subst (λ q. C q j v) x.0 x.1))
 
 -- standing at t is a move of its own
@@ -68,22 +69,22 @@ standing t = record { from = t; middle = t; to = t }
 -- The self step of record r: one may stay and staying suits, or not.
 module _ {s : Site} {up role : List ℕ} {g : Goal} {T : List ℕ} (l : Label) (r t d : ℕ) where
   pub self_found : {stay suit : Bool} → Tells (Stay s l t) stay → stay ≡ true → Tells (Suits (frame s up role g) T l r (standing t) t d) suit → suit ≡ true →
-      SmallestBy (frame s up role g) T self l t d r (Step (record { by = r; over = limits.none; to = t }))
+      SmallestBy (frame s up role g) T self l t d r (Some (record { by = r; over = limits.none; to = t }))
   self_found a i b j rs e =
       let x = told b j in
       smallest_at (Serves (frame s up role g) T rs t d) r (stay_carries l e (told a i) x.passes, x.leaves)
       (λ k v y. let n = (carries_stay l e y.0).0 in omega arith)
 
-  nothing : (Stay s l t → Suits (frame s up role g) T l r (standing t) t d → ⊥) → SmallestBy (frame s up role g) T self l t d r Nothing
+  nothing : (Stay s l t → Suits (frame s up role g) T l r (standing t) t d → ⊥) → SmallestBy (frame s up role g) T self l t d r None
   nothing n rs e =
       smallest_none (Serves (frame s up role g) T rs t d) r
       (λ k v y. let (_, same, w, ok) = carries_stay l e y.0 in n w (record { begins = refl; passes = ok; leaves = rw same at y.1 }))
 
-  pub self_away : {stay : Bool} → Tells (Stay s l t) stay → stay ≡ false → SmallestBy (frame s up role g) T self l t d r Nothing
+  pub self_away : {stay : Bool} → Tells (Stay s l t) stay → stay ≡ false → SmallestBy (frame s up role g) T self l t d r None
   self_away a i = nothing (λ w x. told_not a i w)
 
   pub self_unfit : {suit : Bool} → Tells (Suits (frame s up role g) T l r (standing t) t d) suit → suit ≡ false →
-      SmallestBy (frame s up role g) T self l t d r Nothing
+      SmallestBy (frame s up role g) T self l t d r None
   self_unfit b j = nothing (λ w. told_not b j)
 
 -- triple k offers record r nothing, where the record is a step with this axis and label
@@ -101,7 +102,7 @@ module _ {s : Site} {up role : List ℕ} {g : Goal} {T : List ℕ} {a : Axis} (g
 
   pub triple_found : {k : ℕ} {m : Moved} {suit : Bool} → axes.Taken s k a m → Tells (Suits (frame s up role g) T l r m t d) suit → suit ≡ true →
       ((j : ℕ) → j < k → Idle (frame s up role g) T a l r t d j) →
-      SmallestBy (frame s up role g) T a l t d r (Step (record { by = r; over = k; to = m.to }))
+      SmallestBy (frame s up role g) T a l t d r (Some (record { by = r; over = k; to = m.to }))
   triple_found {k} taken b j idle rs e =
       let x = told b j in
       smallest_at (Serves (frame s up role g) T rs t d) r
@@ -109,7 +110,7 @@ module _ {s : Site} {up role : List ℕ} {g : Goal} {T : List ℕ} {a : Axis} (g
       (λ i v y. elim (dec_lt i k) [ yes h ↦ absurd (idle i h rs e v y) | no h ↦ omega arith ])
 
   pub triple_none : {k : ℕ} → length s ≤ k → ((j : ℕ) → j < k → Idle (frame s up role g) T a l r t d j) →
-      SmallestBy (frame s up role g) T a l t d r Nothing
+      SmallestBy (frame s up role g) T a l t d r None
   triple_none h idle rs e =
       smallest_none (Serves (frame s up role g) T rs t d) r
       (λ j v y. let (_, move, _) = carries_move goes l e y.0 in let b = below goes move in idle j (omega arith) rs e v y)
@@ -121,15 +122,15 @@ starts_along (ahead d) e (going x _) = x.starts
 starts_along (inverse d) e (coming x _) = x.ends
 
 -- Where the triples are threaded by their start, what stands between one of a thread and the next offers nothing.
-module _ (b : List ℕ) {n axis : ℕ} {up role : List ℕ} {g : Goal} {T : List ℕ} (moving : axis ≢ 0) (l : Label) (r t d : ℕ) where
+module _ (b : List ℕ) {n : ℕ} (axis : CodeAxis) {up role : List ℕ} {g : Goal} {T : List ℕ} (l : Label) (r t d : ℕ) where
   pub thread_idle : {k j : ℕ} → FirstWith (start_by axis (site_of b n)) n t k j →
-      ((i : ℕ) → i < k → Idle (frame (site_of b n) up role g) T (axis_numbered axis) l r t d i) →
-      (i : ℕ) → i < j → Idle (frame (site_of b n) up role g) T (axis_numbered axis) l r t d i
+      ((i : ℕ) → i < k → Idle (frame (site_of b n) up role g) T (axis_of axis) l r t d i) →
+      (i : ℕ) → i < j → Idle (frame (site_of b n) up role g) T (axis_of axis) l r t d i
   thread_idle {k} {j} first idle i h rs e u x = elim (dec_lt i k) [
     | yes early ↦ idle i early rs e u x
     | no late ↦
-        let (_, move, _) = carries_move (by-triples axis moving) l e x.0 in
-        let inside : i < n = rw (length-site_of b n) at (below (by-triples axis moving) move) in
-        let least = first.least i (omega arith) inside (sym (starts_along (axis_numbered axis) (by-triples axis moving) move)) in
+        let (_, move, _) = carries_move (by-triples axis) l e x.0 in
+        let inside : i < n = rw (length-site_of b n) at (below (by-triples axis) move) in
+        let least = first.least i (omega arith) inside (sym (starts_along (axis_of axis) (by-triples axis) move)) in
         omega arith
   ]

@@ -9,19 +9,19 @@ use mathlib.Core.List.{List, Memᴰ}
 use native.Mathlib.Omega.{arith}
 use native.Mathlib.Decide.{ℕ_discrete}
 use lib.ListN.{length}
+use Rattle.std.specs.Prelude.{Option}
 use Rattle.meaning.specs.Site.{Site, Voc}
 use Rattle.meaning.specs.Expression.{Rec, plain, testing, joining, choosing, starring}
 use Rattle.meaning.specs.Fewest.{Goal}
 use Rattle.fewest.specs.Frame.{frame}
 use Rattle.fewest.specs.Next.{Next, on, again, ending}
 use Rattle.fewest.specs.Offer.{copying, works_of}
-use Rattle.fewest.specs.Sweep.{sum, Swept}
+use Rattle.fewest.specs.Sweep.{Swept}
 use Rattle.fewest.proofs.Sweeps.{Chain, swept_none, swept_then, swept_weaken, swept_lift}
-use Rattle.path.specs.declared.Stand.{Stand}
 use Rattle.fewest.specs.Tells.{Tells}
 use Rattle.path.specs.Pick.{Enters, begin, after, inward, past}
 use Rattle.path.specs.Flags as flags
-use Rattle.path.specs.Flags.{Open, Opens, Opening, Begins, LeadsBy, to_first, to_one, to_other, to_round, Leads, Led, Due, at_once, in_turn, Justified, Keeps, SweptOpen, Entered}
+use Rattle.path.specs.Flags.{Open, closed, Opens, Opening, Begins, LeadsBy, to_first, to_one, to_other, to_round, Leads, Led, Due, at_once, in_turn, Justified, Keeps, SweptOpen, Entered}
 use Rattle.fewest.proofs.Tells.{told, tells}
 
 -- the links alone tell what comes next
@@ -52,16 +52,16 @@ lead_copies (testing _) x = elim x [ ]
 
 -- What can be entered is entered by what the flags ask, and by nothing else.
 module _ {up role : List ℕ} {rs : List Rec} {first : List ℕ} {word : Bool} {s : Site} {g : Goal} {t : ℕ} (tell : Tells (Voc s t) word) where
-  begins_enters : {x : Stand} {b : ℕ} → Begins up role (length rs) x b → Enters (frame s up role g) rs first t x b
+  begins_enters : {x : Option ℕ} {b : ℕ} → Begins up role (length rs) x b → Enters (frame s up role g) rs first t x b
   begins_enters (flags.begin e) = begin e
   begins_enters (flags.after n) = after (relinked n)
 
-  leads_enters : {x : Stand} {r b : ℕ} → Enters (frame s up role g) rs first t x r → Leads up role rs first word r b →
+  leads_enters : {x : Option ℕ} {r b : ℕ} → Enters (frame s up role g) rs first t x r → Leads up role rs first word r b →
       Enters (frame s up role g) rs first t x b
   leads_enters p l =
       ⊎_elim (inward p l.inside) (λ q. past p q.0 l.inside (told tell q.1) (relinked q.2)) (lead_copies _ l.by)
 
-  enters_open : {x : Stand} {X : List ℕ} {b : ℕ} → ((b : ℕ) → Due up role rs first word x X b → Open X b) →
+  enters_open : {x : Option ℕ} {X : List Bool} {b : ℕ} → ((b : ℕ) → Due up role rs first word x X b → Open X b) →
       Enters (frame s up role g) rs first t x b → Open X b
   enters_open due (begin e) = due _ (at_once (flags.begin e))
   enters_open due (after n) = due _ (at_once (flags.after (relinked n)))
@@ -70,12 +70,12 @@ module _ {up role : List ℕ} {rs : List Rec} {first : List ℕ} {word : Bool} {
       due _ (in_turn (enters_open due p) (record { inside = h; by = rw e (flags.past (tells tell v) (relinked n)) }))
 
 -- a sweep that has looked at the records from r on
-abbrev pub Sweeping : List ℕ → List ℕ → List Rec → List ℕ → Bool → Stand → List ℕ → List ℕ → Bool → Bool → ℕ → Type 0
+abbrev pub Sweeping : List ℕ → List ℕ → List Rec → List ℕ → Bool → Option ℕ → List Bool → List Bool → Bool → Bool → ℕ → Type 0
 Sweeping up role rs first word x X Y was now r =
-    Swept sum (Keeps up role rs first word x) (λ Z. (q b : ℕ) → r ≤ q → Open Z q → Leads up role rs first word q b → Open Z b) X Y was now
+    Swept closed (Keeps up role rs first word x) (λ Z. (q b : ℕ) → r ≤ q → Open Z q → Leads up role rs first word q b → Open Z b) X Y was now
 
-module _ {up role : List ℕ} {rs : List Rec} {first : List ℕ} {word : Bool} {x : Stand} where
-  keeps_chain : Chain sum (Keeps up role rs first word x)
+module _ {up role : List ℕ} {rs : List Rec} {first : List ℕ} {word : Bool} {x : Option ℕ} where
+  keeps_chain : Chain closed (Keeps up role rs first word x)
   keeps_chain = record {
     stays = λ X. record { justified = λ s g t tell j. j; fewer = omega arith };
     joins = λ X Y Z p q. record {
@@ -86,7 +86,7 @@ module _ {up role : List ℕ} {rs : List Rec} {first : List ℕ} {word : Bool} {
   }
 
   -- what is opened for a reason that lets it be entered keeps the flags justified
-  keeps : {P : ℕ → Type 0} {X Y : List ℕ} → ((s : Site) (g : Goal) (t : ℕ) → Tells (Voc s t) word →
+  keeps : {P : ℕ → Type 0} {X Y : List Bool} → ((s : Site) (g : Goal) (t : ℕ) → Tells (Voc s t) word →
       Justified (Enters (frame s up role g) rs first t x) X → (b : ℕ) → P b → Enters (frame s up role g) rs first t x b) →
       Opens P X Y → Keeps up role rs first word x X Y
   keeps f p = record {
@@ -94,15 +94,15 @@ module _ {up role : List ℕ} {rs : List Rec} {first : List ℕ} {word : Bool} {
     fewer = p.fewer;
   }
 
-  pub sweep_begins : {r : ℕ} {X : List ℕ} {was : Bool} → r ≡ length rs → Sweeping up role rs first word x X X was was r
+  pub sweep_begins : {r : ℕ} {X : List Bool} {was : Bool} → r ≡ length rs → Sweeping up role rs first word x X X was was r
   sweep_begins e = swept_none keeps_chain (λ q b h o l. let i = l.inside in absurd (omega arith))
 
   -- One record more.
-  pub sweep_more : {X Y Z : List ℕ} {was now then : Bool} (r : ℕ) → Sweeping up role rs first word x X Y was now r →
+  pub sweep_more : {X Y Z : List Bool} {was now then : Bool} (r : ℕ) → Sweeping up role rs first word x X Y was now r →
       Led up role rs first word (r - 1) Y Z now then → Sweeping up role rs first word x X Z was then (r - 1)
   sweep_more {X} {Y} {Z} {now = now} {then} r p q = swept_weaken more (swept_then keeps_chain p here)
     where
-      here : Swept sum (Keeps up role rs first word x) (λ W. (b : ℕ) → Open W (r - 1) → Leads up role rs first word (r - 1) b → Open W b) Y Z now then
+      here : Swept closed (Keeps up role rs first word x) (λ W. (b : ℕ) → Open W (r - 1) → Leads up role rs first word (r - 1) b → Open W b) Y Z now then
       here = swept_weaken (λ h b o l. h b (o, l)) (swept_lift (keeps (λ s g t tell j b l. leads_enters tell (j (r - 1) l.0) l.1)) q)
 
       more : ((q b : ℕ) → r ≤ q → Open X q → Leads up role rs first word q b → Open X b) ×
@@ -114,9 +114,9 @@ module _ {up role : List ℕ} {rs : List Rec} {first : List ℕ} {word : Bool} {
       ]
 
   -- All of it, after what is open at once.
-  pub sweep_all : {r count : ℕ} {X Y Z : List ℕ} {was now then : Bool} → r ≤ 0 → count ≡ length rs → Opening (Begins up role count x) X Y was now →
+  pub sweep_all : {r count : ℕ} {X Y Z : List Bool} {was now then : Bool} → r ≤ 0 → count ≡ length rs → Opening (Begins up role count x) X Y was now →
       Sweeping up role rs first word x Y Z now then r →
-      Swept sum (Keeps up role rs first word x) (λ Z. (b : ℕ) → Due up role rs first word x Z b → Open Z b) X Z was then
+      Swept closed (Keeps up role rs first word x) (λ Z. (b : ℕ) → Due up role rs first word x Z b → Open Z b) X Z was then
   sweep_all {r} {count} {X} low e p q = swept_weaken due (swept_then keeps_chain (swept_lift (keeps (λ s g t tell j b i. begins_enters tell (rw e at i))) p) q)
     where
       due : ((b : ℕ) → Begins up role count x b → Open X b) ×
@@ -126,17 +126,17 @@ module _ {up role : List ℕ} {rs : List Rec} {first : List ℕ} {word : Bool} {
 
   -- Sweep after sweep: the flags stay justified, their sum falls with each change, and what a sweep leaves as it was is exactly
   -- what can be entered.
-  pub keeps_none : {X : List ℕ} → Keeps up role rs first word x X X
+  pub keeps_none : {X : List Bool} → Keeps up role rs first word x X X
   keeps_none {X} = keeps_chain.stays X
 
-  module _ {Y Z : List ℕ} {now : Bool} (p : SweptOpen up role rs first word x Y Z now) where
-    pub keeps_more : {X : List ℕ} → Keeps up role rs first word x X Y → Keeps up role rs first word x X Z
+  module _ {Y Z : List Bool} {now : Bool} (p : SweptOpen up role rs first word x Y Z now) where
+    pub keeps_more : {X : List Bool} → Keeps up role rs first word x X Y → Keeps up role rs first word x X Z
     keeps_more {X} k = keeps_chain.joins X Y Z k p.reached
 
-    pub sweep_falls : now ≡ true → sum Z < sum Y
+    pub sweep_falls : now ≡ true → closed Z < closed Y
     sweep_falls e = ⊎_elim (λ f. let z : ◌≡◌ {A = ℕ} 0 1 = cc in absurd (omega arith)) (λ l. l) (p.falls e)
 
-    pub sweep_exactly : {X : List ℕ} → now ≡ false → Keeps up role rs first word x X Y → Entered up role rs first word x X Z
+    pub sweep_exactly : {X : List Bool} → now ≡ false → Keeps up role rs first word x X Y → Entered up role rs first word x X Z
     sweep_exactly e k s g t tell none =
         let (_, same, due) = p.still e in
         rw same (record { sound = k.justified s g t tell (λ b o. absurd (none b o)); whole = λ b. enters_open tell due })

@@ -1,22 +1,26 @@
 -- What the functions that look for a step promise: of the steps that one record, or all open records, offer, the smallest.
-use Rattle.std.specs.Prelude.{ℕ, ◌≤◌, ◌≡◌, Bool, true, List, get_or}
+use Rattle.std.specs.Prelude.{ℕ, ◌≤◌, ◌≡◌, Bool, true, Option, Some, None, List, get_or}
 use Rattle.meaning.specs.Site.{Site, Voc}
 use Rattle.meaning.specs.Move.{Axis}
 use Rattle.meaning.specs.Expression.{Rec, starring}
 use Rattle.meaning.specs.Fewest.{Goal}
 use Rattle.records.specs.declared.Label.{Label}
 use Rattle.records.specs.declared.Label.TheVariants.{Any, Term, Test}
+use Rattle.records.specs.Sites.{site_of}
 use Rattle.records.specs.Rules.{labelled}
 use Rattle.fewest.specs.declared.look.Moved.{Moved}
+use Rattle.fewest.specs.declared.task.Task.{Task}
 use Rattle.fewest.specs.Frame.{Frame, frame}
 use Rattle.fewest.specs.Offer.{Continues}
-use Rattle.fewest.specs.Work.{allowing}
+use Rattle.fewest.specs.Work.{goal_of, allowing}
 use Rattle.path.specs.declared.Taken.{Taken}
-use Rattle.path.specs.declared.Pick.{Pick}
-use Rattle.path.specs.declared.Pick.TheVariants.{Step, Nothing}
 use Rattle.fewest.specs.Tells.{Tells}
 use Rattle.path.specs.Pick.{Carries, NoLater}
 use Rattle.path.specs.Flags.{Open}
+
+-- what a walk is about: the task's site, its links and its goal
+abbrev pub frame_of : Task → Frame
+frame_of x = frame (site_of x.site.bytes.now x.site.triples) x.ahead.links.now.up x.ahead.links.now.role (goal_of x.ahead.goal)
 
 -- once record r's expression is finished at u, d more steps are left at the least
 pub record Leaves (F : Frame) (T : List ℕ) (r u d : ℕ) : Type 0 where
@@ -43,22 +47,22 @@ MayStay word l b = (s : Site) (t : ℕ) → Tells (Voc s t) word → Tells (Stay
 
 -- of the steps that are offered, each by its record, its triple and the term reached, the one picked is offered and none is
 -- earlier; nothing is picked only where none is offered
-pub data Smallest (C : ℕ → ℕ → ℕ → Type 0) : Pick → Type 0 where
-  found : {y : Taken} → C y.by y.over y.to → ((r k u : ℕ) → C r k u → NoLater y.by y.over r k) → Smallest C (Step y)
-  none : ((r k u : ℕ) → C r k u → ⊥) → Smallest C Nothing
+pub data Smallest (C : ℕ → ℕ → ℕ → Type 0) : Option Taken → Type 0 where
+  found : {y : Taken} → C y.by y.over y.to → ((r k u : ℕ) → C r k u → NoLater y.by y.over r k) → Smallest C (Some y)
+  none : ((r k u : ℕ) → C r k u → ⊥) → Smallest C None
 
 -- record r is a step that takes t to u by triple k and leaves d
 abbrev pub Serves : Frame → List ℕ → List Rec → (t d r k u : ℕ) → Type 0
 Serves F T rs t d r k u = Carries F T rs r k t u × Leaves F T r u d
 
 -- the smallest step of record r, which is a step with this axis and label
-abbrev pub SmallestBy : Frame → List ℕ → Axis → Label → (t d r : ℕ) → Pick → Type 0
+abbrev pub SmallestBy : Frame → List ℕ → Axis → Label → (t d r : ℕ) → Option Taken → Type 0
 SmallestBy F T a l t d r p = (rs : List Rec) → get_or rs r starring ≡ labelled a l → Smallest (λ q k u. (q ≡ r) × Serves F T rs t d q k u) p
 
 -- the smallest step of record r, if it is open
-abbrev pub SmallestOf : Frame → List ℕ → List Rec → List ℕ → (t d r : ℕ) → Pick → Type 0
+abbrev pub SmallestOf : Frame → List ℕ → List Rec → List Bool → (t d r : ℕ) → Option Taken → Type 0
 SmallestOf F T rs X t d r p = Smallest (λ q k u. (q ≡ r) × (Open X q × Serves F T rs t d q k u)) p
 
 -- the smallest step of all open records
-abbrev pub SmallestOpen : Frame → List ℕ → List Rec → List ℕ → (t d : ℕ) → Pick → Type 0
+abbrev pub SmallestOpen : Frame → List ℕ → List Rec → List Bool → (t d : ℕ) → Option Taken → Type 0
 SmallestOpen F T rs X t d p = Smallest (λ q k u. Open X q × Serves F T rs t d q k u) p

@@ -1,4 +1,4 @@
-// Which records can be entered at no cost where the walk stands, as flags: 1 for a record that is shut, 0 for one that is open.
+// Which records can be entered at no cost where the walk stands, as flags: a record is shut or open.
 // A record is only ever opened for a reason, and sweeps go on until one changes nothing: then none is missing.
 ghost use Rattle.std.specs.Prelude.{◌<◌, ◌≤◌, ◌≡◌, false};
 ghost use Rattle.meaning.specs.Limits.{records};
@@ -8,90 +8,68 @@ ghost use Rattle.fewest.specs.Next.{Next};
 ghost use Rattle.fewest.specs.Work.{Sits};
 ghost use Rattle.path.specs.Flags.{Placed, RuleReady, Opening, linked, Begins, LeadsBy, Led, SweptOpen, Entered};
 
-use crate::Stand;
-use fewest::links::{AS_FIRST, AS_TEST, AS_WHOLE};
+use fewest::links::{Links, Role};
+use fewest::task::Rule;
 use records::rule::record_of;
 use records::{RECORDS, Record};
 
 // Record b is open. True if it was not, or if anything was changed before.
-fn mark(shut: &mut [u8; RECORDS], b: usize, was: bool) -> bool
+fn mark(shut: &mut [bool; RECORDS], b: usize, was: bool) -> bool
     requires { b < records }
     ensures { Opening (λ c. c ≡ b) shut.old shut.new was result }
 {
-    if shut[b] == 0 {
-        return was;
+    if shut[b] {
+        shut[b] = false;
+        return true;
     }
-    shut[b] = 0;
-    true
+    was
 }
 
 // Once record r's expression is done, what comes next is open: the second of a sequence, or a star's operand once more, is the
 // record before it.
-fn follow<'a>(
-    up: &'a [u8; RECORDS],
-    role: &'a [u8; RECORDS],
-    shut: &mut [u8; RECORDS],
-    r: usize,
-    was: bool,
-) -> bool
-    requires { Climbs records up.now role.now × (r < records) }
-    ensures { Opening (Next (linked up.now role.now) r) shut.old shut.new was result }
+fn follow(links: &Links, shut: &mut [bool; RECORDS], r: usize, was: bool) -> bool
+    requires { Climbs records links.now.up links.now.role × (r < records) }
+    ensures { Opening (Next (linked links.now.up links.now.role) r) shut.old shut.new was result }
 {
     let mut changed = was;
     let mut at = r;
     loop {
-        let stands = role[at];
-        if stands == AS_WHOLE {
-            return changed;
+        let above = links.above(at);
+        match links.role(at) {
+            Role::Whole | Role::Test => return changed,
+            Role::First => return mark(shut, above - 1, changed),
+            Role::Round => {
+                changed = mark(shut, above - 1, changed);
+                at = above;
+            }
         }
-        if stands == AS_TEST {
-            return changed;
-        }
-        let above = up[at] as usize;
-        changed = mark(shut, above - 1, changed);
-        if stands == AS_FIRST {
-            return changed;
-        }
-        at = above;
     }
 }
 
 // Before the first step the whole rule is open; after a step, what comes once its record is done.
-fn begin<'a>(
-    count: usize,
-    up: &'a [u8; RECORDS],
-    role: &'a [u8; RECORDS],
-    stand: Stand,
-    shut: &mut [u8; RECORDS],
-) -> bool
-    requires { Climbs records up.now role.now × (count ≤ records) × Placed stand }
-    ensures { Opening (Begins up.now role.now count stand) shut.old shut.new false result }
+fn begin(count: usize, links: &Links, after: Option<usize>, shut: &mut [bool; RECORDS]) -> bool
+    requires { Climbs records links.now.up links.now.role × (count ≤ records) × Placed after }
+    ensures { Opening (Begins links.now.up links.now.role count after) shut.old shut.new false result }
 {
-    match stand {
-        Stand::Begin => {
-            if count == 0 {
-                return false;
-            }
-            mark(shut, count - 1, false)
-        }
-        Stand::After(r) => follow(up, role, shut, r, false),
+    match after {
+        None => count != 0 && mark(shut, count - 1, false),
+        Some(r) => follow(links, shut, r, false),
     }
 }
 
 // What record r leads to: a sequence to its first operand f, a choice to both operands, a star to its operand and, at a term
 // of the vocabulary, to what comes after the star.
-fn inward<'a>(
+fn inward(
     rec: Record,
     f: usize,
-    up: &'a [u8; RECORDS],
-    role: &'a [u8; RECORDS],
+    links: &Links,
     word: bool,
     r: usize,
-    shut: &mut [u8; RECORDS],
+    shut: &mut [bool; RECORDS],
     was: bool,
 ) -> bool
-    requires { Climbs records up.now role.now × (r < records) × (f < records) × Sits rec r }
-    ensures { Opening (λ b. LeadsBy word (Next (linked up.now role.now) r) r f b (rec_of rec)) shut.old shut.new was result }
+    requires { Climbs records links.now.up links.now.role × (r < records) × (f < records) × Sits rec r }
+    ensures { Opening (λ b. LeadsBy word (Next (linked links.now.up links.now.role) r) r f b (rec_of rec)) shut.old shut.new was result }
 {
     match rec {
         Record::Step(_) => was,
@@ -103,7 +81,7 @@ fn inward<'a>(
         Record::Star => {
             let changed = mark(shut, r - 1, was);
             if word {
-                return follow(up, role, shut, r, changed);
+                return follow(links, shut, r, changed);
             }
             changed
         }
@@ -111,74 +89,52 @@ fn inward<'a>(
 }
 
 // What record r leads to, if it is open.
-fn lead<'a>(
-    rule: &[u8],
-    starts: &[u8; RECORDS],
-    count: usize,
-    up: &'a [u8; RECORDS],
-    role: &'a [u8; RECORDS],
-    first: &'a [u8; RECORDS],
+fn lead(
+    rule: &Rule,
+    links: &Links,
     word: bool,
     r: usize,
-    shut: &mut [u8; RECORDS],
+    shut: &mut [bool; RECORDS],
     was: bool,
 ) -> bool
-    requires { RuleReady rule.now starts.now count up.now role.now first.now × (r < count) }
-    ensures { Led up.now role.now (records_of rule.now) first.now word r shut.old shut.new was result }
+    requires { RuleReady rule.now links.now × (r < rule.now.count) }
+    ensures { Led links.now.up links.now.role (records_of rule.now.bytes.now) links.now.first word r shut.old shut.new was result }
 {
-    if shut[r] != 0 {
+    if shut[r] {
         return was;
     }
-    inward(
-        record_of(rule, starts, r),
-        first[r] as usize,
-        up,
-        role,
-        word,
-        r,
-        shut,
-        was,
-    )
+    let rec = record_of(rule.bytes, rule.starts, r);
+    inward(rec, links.first(r), links, word, r, shut, was)
 }
 
 // One sweep. True if it changed anything. Operands stand before what they are of, so it goes down.
-fn sweep<'a>(
-    rule: &[u8],
-    starts: &[u8; RECORDS],
-    count: usize,
-    up: &'a [u8; RECORDS],
-    role: &'a [u8; RECORDS],
-    first: &'a [u8; RECORDS],
+fn sweep(
+    rule: &Rule,
+    links: &Links,
     word: bool,
-    stand: Stand,
-    shut: &mut [u8; RECORDS],
+    after: Option<usize>,
+    shut: &mut [bool; RECORDS],
 ) -> bool
-    requires { RuleReady rule.now starts.now count up.now role.now first.now × Placed stand }
-    ensures { SweptOpen up.now role.now (records_of rule.now) first.now word stand shut.old shut.new result }
+    requires { RuleReady rule.now links.now × Placed after }
+    ensures { SweptOpen links.now.up links.now.role (records_of rule.now.bytes.now) links.now.first word after shut.old shut.new result }
 {
-    let mut changed = begin(count, up, role, stand, shut);
-    let mut r = count;
-    while 0 < r {
-        r -= 1;
-        changed = lead(rule, starts, count, up, role, first, word, r, shut, changed);
+    let mut changed = begin(rule.count, links, after, shut);
+    for r in (0..rule.count).rev() {
+        changed = lead(rule, links, word, r, shut, changed);
     }
     changed
 }
 
 // All records that can be entered, none being open before.
-pub fn enter<'a>(
-    rule: &[u8],
-    starts: &[u8; RECORDS],
-    count: usize,
-    up: &'a [u8; RECORDS],
-    role: &'a [u8; RECORDS],
-    first: &'a [u8; RECORDS],
+pub fn enter(
+    rule: &Rule,
+    links: &Links,
     word: bool,
-    stand: Stand,
-    shut: &mut [u8; RECORDS],
+    after: Option<usize>,
+    shut: &mut [bool; RECORDS],
 )
-    requires { RuleReady rule.now starts.now count up.now role.now first.now × Placed stand }
-    ensures { Entered up.now role.now (records_of rule.now) first.now word stand shut.old shut.new }
+    requires { RuleReady rule.now links.now × Placed after }
+    ensures { Entered links.now.up links.now.role (records_of rule.now.bytes.now) links.now.first word after shut.old shut.new }
 {
-    while sweep(rule, starts, count, up, role, first, word, stand, shut) {}
+    while sweep(rule, links, word, after, shut) {}
 }

@@ -44,7 +44,7 @@ module _ {s r : List ℕ} {z v : ℕ} where
 -- Two texts for one input are equal.
 pub printed_unique : {input t u : List ℕ} → Printed input t → Printed input u → t ≡ u
 printed_unique (outside p) (outside q) = refl
-printed_unique (outside p) (said q e x) = let z : ◌≡◌ {A = ℕ} 0 1 = cc in absurd (omega arith)
-printed_unique (said p e x) (outside q) = let z : ◌≡◌ {A = ℕ} 0 1 = cc in absurd (omega arith)
+printed_unique (outside p) (said q e x) = cc
+printed_unique (said p e x) (outside q) = cc
 printed_unique {input} {u = u} (said p e x) (said q f y) =
     says_unique x (rw (ends_unique e f) y)

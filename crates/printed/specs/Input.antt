@@ -1,12 +1,12 @@
 -- The parts of the query program's input (document 01, "The query program").
 -- The last five bytes are the query record; ahead of them leading records of kind 10 are the site, and the rule starts where they end.
-use Rattle.std.specs.Prelude.{ℕ, ◌+◌, ◌-◌, ◌<◌, ◌≤◌, ◌≡◌, Bool, true, false, ◌&&◌, List, length, get_or, take, drop, leb, eqb}
+use Rattle.std.specs.Prelude.{ℕ, ◌+◌, ◌-◌, ◌<◌, ◌≤◌, ◌≡◌, Bool, true, false, ◌&&◌, List, length, get_or, take, drop, leb, eqb, Result, Ok, Err}
 use Rattle.records.specs.declared.Reason.TheVariants.{Input}
+use Rattle.records.specs.declared.Refusal.{Refusal}
 use Rattle.records.specs.Bytes.{number16}
 use Rattle.records.specs.Sites.{triple_kind, triple_width}
 use Rattle.records.specs.Rules.{refusal}
-use Rattle.printed.specs.declared.split.SplitAnswer.{SplitAnswer}
-use Rattle.printed.specs.declared.split.SplitAnswer.TheVariants.{Parts, Refused}
+use Rattle.printed.specs.declared.split.Parts.{Parts}
 
 -- the most bytes of an input
 unfoldable pub input_most : ℕ
@@ -53,7 +53,7 @@ abbrev pub end_of : List ℕ → ℕ
 end_of s = number16 s (query_at s + 3)
 
 -- an input is split so, or is refused
-pub data Splits (s : List ℕ) : SplitAnswer → Type 0 where
-  refused : has_query s ≡ false → Splits s (Refused (refusal Input 0))
+pub data Splits (s : List ℕ) : Result Parts Refusal → Type 0 where
+  refused : has_query s ≡ false → Splits s (Err (refusal Input 0))
   parts : {to : ℕ} → has_query s ≡ true → SiteEnds (ahead s) 0 to →
-      Splits s (Parts (record { rule = to; start = start_of s; end = end_of s }))
+      Splits s (Ok (record { rule = to; start = start_of s; end = end_of s }))

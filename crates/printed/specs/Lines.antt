@@ -1,12 +1,11 @@
 -- The lines that the query program prints, as bytes (document 01, "The query program").
 -- Numbers are decimal; each is followed by a space, and the last of a line by its end.
-use Rattle.std.specs.Prelude.{ℕ, zero, suc, ◌+◌, ◌*◌, ◌/◌, ◌%◌, Bool, cond, List, [], ◌∷◌, ◌++◌, ltb, eqb, get_or, drop}
+use Rattle.std.specs.Prelude.{ℕ, zero, suc, ◌+◌, ◌/◌, ◌%◌, Bool, cond, List, [], ◌∷◌, ◌++◌, ltb, eqb, get_or, drop, Result, Ok, Err}
 use Rattle.meaning.specs.Limits.{none}
 use Rattle.meaning.specs.Path.{Path}
 use Rattle.records.specs.declared.Refusal.{Refusal}
 use Rattle.records.specs.Refusals.{number_of}
 use Rattle.calls.specs.declared.Answer.{Answer}
-use Rattle.calls.specs.Promise.{room_steps}
 
 -- what stands behind a number: a space, or the end of the line
 abbrev pub space : ℕ
@@ -70,16 +69,18 @@ unfoldable pub step_lines : ℕ → List ℕ → List ℕ
 step_lines zero l = []
 step_lines (suc n) l = step_line (get_or l 0 0) (get_or l 1 0) (get_or l 2 0) ++ step_lines n (drop 3 l)
 
--- a line of numbers is no longer than this, nor a step's line than that; a text has one line and a full room of steps
+-- a line of numbers is no longer than this, nor a step's line than that
 unfoldable pub line_most : ℕ
 line_most = 67
 
 unfoldable pub step_most : ℕ
 step_most = 18
 
-unfoldable pub text_most : ℕ
-text_most = line_most + step_most * room_steps
-
 -- an answer and its ceiling, and the steps that a room holds
 abbrev pub answer_text : Answer → ℕ → List ℕ → List ℕ
 answer_text x most room = answer_line x.yes x.figure most x.steps ++ step_lines x.steps room
+
+-- the text of an answer with its ceiling, where the room holds the steps, and of a refusal
+abbrev pub text_for : Result (Answer × ℕ) Refusal → List ℕ → List ℕ
+text_for (Ok (x, most)) room = answer_text x most room
+text_for (Err x) room = refused_line x

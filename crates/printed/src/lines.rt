@@ -1,10 +1,7 @@
 // The lines of a text: a refusal's, an answer's, a step's.
-ghost use Rattle.std.specs.Prelude.{◌+◌, ◌*◌, ◌≤◌, length};
-ghost use Rattle.printed.specs.Put.{Put};
-ghost use Rattle.printed.specs.Lines.{answer_word, refused_line, answer_line, triple_field, step_line, step_lines, line_most, step_most};
-
-use crate::put::{put_field, put_word};
-use records::{NONE, Refusal};
+use crate::put::Text;
+use calls::Answer;
+use records::{NONE, Refusal, number};
 
 // A line of numbers has at most so many bytes: a word of eight and two numbers, or one of four and three, with 20 digits a number.
 pub const LINE_MOST: usize = 67;
@@ -12,68 +9,73 @@ pub const LINE_MOST: usize = 67;
 // A step's line has at most so many: three numbers of five digits.
 pub const STEP_MOST: usize = 18;
 
-pub fn put_refused(out: &mut [u8], refusal: Refusal) -> usize
-    requires { line_most ≤ length out.old }
-    ensures { Put (refused_line refusal) 0 out.old out.new result }
-{
-    let reason = refusal.reason;
-    let number = records::number(reason) as usize;
-    let one = put_word(out, 0, b"refused ");
-    let two = put_field(out, one, number, b' ');
-    put_field(out, two, refusal.place, b'\n')
-}
+impl<const MOST: usize> Text<MOST> {
+    ghost use Rattle.std.specs.Prelude.{◌+◌, ◌*◌, ◌≤◌, length};
+    ghost use Rattle.printed.specs.Put.{Put, HasRoom};
+    ghost use Rattle.printed.specs.Lines.{answer_word, refused_line, answer_line, triple_field, step_line, step_lines, line_most, step_most};
 
-fn put_answer_word(out: &mut [u8], yes: bool) -> usize
-    requires { length (answer_word yes) ≤ length out.old }
-    ensures { Put (answer_word yes) 0 out.old out.new result }
-{
-    if yes {
-        return put_word(out, 0, b"yes ");
+    #[tactic(auto, using(crate::proofs::Lengths::in_a_line), unfolding(crate::specs::Lines::refused_line, crate::specs::Lines::line_most))]
+    pub fn put_refused(&mut self, refusal: Refusal)
+        requires { HasRoom line_most self.old }
+        ensures { Put (refused_line refusal) self.old self.new }
+    {
+        self.put_word(b"refused ");
+        self.put_field(number(refusal.reason) as usize, b' ');
+        self.put_field(refusal.place, b'\n');
     }
-    put_word(out, 0, b"no ")
-}
 
-pub fn put_answer(out: &mut [u8], yes: bool, figure: usize, ceiling: usize, steps: usize) -> usize
-    requires { line_most ≤ length out.old }
-    ensures { Put (answer_line yes figure ceiling steps) 0 out.old out.new result × (result ≤ line_most) }
-{
-    let one = put_answer_word(out, yes);
-    let two = put_field(out, one, figure, b' ');
-    let three = put_field(out, two, ceiling, b' ');
-    put_field(out, three, steps, b'\n')
-}
-
-// A step's triple; self has none.
-fn put_triple(out: &mut [u8], at: usize, triple: usize) -> usize
-    requires { at + length (triple_field triple) ≤ length out.old }
-    ensures { Put (triple_field triple) at out.old out.new result }
-{
-    if triple == NONE {
-        return put_word(out, at, b"- ");
+    fn put_answer_word(&mut self, yes: bool)
+        requires { HasRoom (length (answer_word yes)) self.old }
+        ensures { Put (answer_word yes) self.old self.new }
+    {
+        self.put_word(if yes { b"yes " } else { b"no " });
     }
-    put_field(out, at, triple, b' ')
-}
 
-fn put_step(out: &mut [u8], at: usize, by: u16, over: u16, to: u16) -> usize
-    requires { at + step_most ≤ length out.old }
-    ensures { Put (step_line by over to) at out.old out.new result × (result ≤ at + step_most) }
-{
-    let one = put_field(out, at, by as usize, b' ');
-    let two = put_triple(out, one, over as usize);
-    put_field(out, two, to as usize, b'\n')
-}
-
-// A line for each of the first steps that a room holds.
-pub fn put_steps(out: &mut [u8], at: usize, room: &[u16], steps: usize) -> usize
-    requires { (at + step_most * steps ≤ length out.old) × (3 * steps ≤ length room.now) }
-    ensures { Put (step_lines steps room.now) at out.old out.new result }
-{
-    let mut next = at;
-    let mut i = 0;
-    while i < steps {
-        let k = 3 * i;
-        next = put_step(out, next, room[k], room[k + 1], room[k + 2]);
-        i += 1;
+    #[tactic(auto, using(crate::proofs::Lengths::in_a_line), unfolding(crate::specs::Lines::answer_line, crate::specs::Lines::line_most))]
+    pub fn put_answer(&mut self, answer: Answer, ceiling: usize)
+        requires { HasRoom line_most self.old }
+        ensures line { Put (answer_line answer.yes answer.figure ceiling answer.steps) self.old self.new }
+        ensures within { self.new.count ≤ self.old.count + line_most }
+    {
+        self.put_answer_word(answer.yes);
+        self.put_field(answer.figure, b' ');
+        self.put_field(ceiling, b' ');
+        self.put_field(answer.steps, b'\n');
     }
-    next
+
+    // A step's triple; self has none.
+    #[tactic(auto, unfolding(crate::specs::Lines::triple_field, meaning::specs::Limits::none))]
+    fn put_triple(&mut self, triple: usize)
+        requires { HasRoom (length (triple_field triple)) self.old }
+        ensures { Put (triple_field triple) self.old self.new }
+    {
+        if triple == NONE {
+            self.put_word(b"- ");
+        } else {
+            self.put_field(triple, b' ');
+        }
+    }
+
+    #[tactic(auto, using(crate::proofs::Lengths::in_a_step), unfolding(crate::specs::Lines::step_line, crate::specs::Lines::step_most))]
+    fn put_step(&mut self, by: u16, over: u16, to: u16)
+        requires { HasRoom step_most self.old }
+        ensures line { Put (step_line by over to) self.old self.new }
+        ensures within { self.new.count ≤ self.old.count + step_most }
+    {
+        self.put_field(usize::from(by), b' ');
+        self.put_triple(usize::from(over));
+        self.put_field(usize::from(to), b'\n');
+    }
+
+    // A line for each of the first steps that a room holds.
+    pub fn put_steps(&mut self, room: &[u16], steps: usize)
+        requires room { HasRoom (step_most * steps) self.old }
+        requires held { 3 * steps ≤ length room.now }
+        ensures { Put (step_lines steps room.now) self.old self.new }
+    {
+        let (each, _) = room.as_chunks::<3>();
+        for &[by, over, to] in &each[..steps] {
+            self.put_step(by, over, to);
+        }
+    }
 }

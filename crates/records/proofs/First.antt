@@ -50,11 +50,7 @@ operand (own h t) other = absurd (other t)
 operand (of_one {f = f} h t some p) other = (some, (f, p))
 operand (of_two m h t some p more q) other = (some, (m, p))
 
--- An expression stands inside itself,
-pub inside_none : {rs : List Rec} {r : ℕ} → Ends rs r → Inside rs r r
-inside_none e = record { before = omega arith; ends = e; same = λ f p. p }
-
--- and so does the operand of one that takes one.
+-- The operand of a record that takes one stands where that record does.
 pub inside_more : {rs : List Rec} {last r : ℕ} → Inside rs last r → taken rs r ≡ 1 → (0 < r) × Inside rs last (r - 1)
 inside_more {rs} {last} {r} x one =
     let (f, p) = x.ends in

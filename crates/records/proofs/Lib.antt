@@ -15,3 +15,4 @@ pub mod Progress
 pub mod Checked
 pub mod Starts
 pub mod First
+pub mod Once

@@ -6,15 +6,14 @@ use mathlib.Core.Path.{◌≡◌, refl}
 use mathlib.Core.List.{List}
 use mathlib.Core.Bool.{true}
 use lib.ListN.{length, get_or}
-use lib.Dec.{eqb}
-use borrow.Author.Tests.{eqb-true, eqb-false, lt-ltb, le-ltb}
+use borrow.Author.Tests.{le-ltb}
 use Rattle.meaning.specs.Limits.{terms, triples}
 use Rattle.meaning.specs.Site as meant
 use Rattle.records.specs.Bytes.{base, two_bytes, four_bytes, number16, number64}
 use Rattle.records.specs.Sites.{triple_kind, triple_width, triple_of, in_code, is_above, is_in_order, site_record_at}
+use Rattle.std.proofs.lemmas.Bool.Decides.{nat_tests}
+use Rattle.std.specs.Prelude.{Some, Ok}
 use Rattle.records.specs.Plain.{Plain}
-use Rattle.records.specs.declared.site.SiteRecord.TheVariants.{Triple as Read}
-use Rattle.records.proofs.Tests.{by_test}
 use Rattle.records.proofs.TwoBytes.{AllBytes, two_fit, eight_twos, low_alone}
 use Rattle.records.proofs.SiteRecord.{Terms, terms_pass, read_whole}
 
@@ -56,12 +55,7 @@ plain_holds s at bytes p =
 -- of two triples of terms, the one with the greater number stands above
 packed_above : (x y : meant.Triple) → Terms x → Terms y → packed y < packed x → is_above (in_code x) (in_code y) ≡ true
 unfolding is_above terms
-packed_above x y tx ty less =
-    by_test (λ t. t ≡ true) (eqb x.subject y.subject)
-    (λ s. by_test (λ t. t ≡ true) (eqb x.predicate y.predicate)
-    (λ p. lt-ltb y.object x.object (omega (arith, eqb-true x.subject y.subject s, eqb-true x.predicate y.predicate p)))
-    (λ p. lt-ltb y.predicate x.predicate (omega (arith, eqb-true x.subject y.subject s, eqb-false x.predicate y.predicate p))))
-    (λ s. lt-ltb y.subject x.subject (omega (arith, eqb-false x.subject y.subject s)))
+packed_above x y tx ty less = grind (arith, nat_tests, tx, ty)
 
 -- a place, and the eight bytes of the record before it; 0 where there is none
 pub data Behind (s : List ℕ) : ℕ → ℕ → Type 0 where
@@ -79,6 +73,6 @@ behind_order (one {at = at} b) h less =
 
 -- and above the record before, it is read as a triple.
 pub plain_read : {s : List ℕ} {at before : ℕ} → at + triple_width ≤ length s → at < triples * triple_width →
-    Behind s at before → Holds s at → before < number64 s at → site_record_at s at ≡ Read (in_code (triple_of s at))
+    Behind s at before → Holds s at → before < number64 s at → site_record_at s at ≡ Ok (Some (in_code (triple_of s at)))
 plain_read {s} {at} fits few b h less =
     read_whole s at h.kind (record { fits = fits; few = few; terms = terms_pass _ h.terms; order = behind_order b h less })

@@ -12,10 +12,7 @@ use Rattle.meaning.specs.Limits.{records}
 use Rattle.records.specs.declared.Record.{Record}
 use Rattle.records.specs.declared.Reason.TheVariants.{NotOne}
 use Rattle.records.specs.declared.Refusal.{Refusal}
-use Rattle.records.specs.declared.rule.RuleRecord.TheVariants as found
-use Rattle.records.specs.declared.rule.RuleAnswer.{RuleAnswer}
-use Rattle.records.specs.declared.rule.RuleAnswer.TheVariants as answered
-use Rattle.records.specs.declared.rule.RuleRead.{RuleRead}
+use Rattle.std.specs.Prelude.{Some, Result, Ok, Err}
 use Rattle.records.specs.Rules.{refusal, left, rule_record_at, Reads, one, not_one, refused, read, RuleChecked, starts_from, starts_of, Front, CheckedRule}
 use Rattle.records.proofs.Reading.{longest, length-longest, read_good, past_end}
 use Rattle.records.proofs.Starts.{starts_more, starts_end, front_more}
@@ -25,7 +22,7 @@ pub record Progress (s starts : List ℕ) (at count height : ℕ) : Type 0 where
   pub room : count ≤ records
   pub few : height ≤ count
   pub near : at ≤ count * longest
-  pub answers : (a : RuleAnswer) → Reads s (rule_record_at s at count height) count height a → RuleChecked s a
+  pub answers : (a : Result ℕ Refusal) → Reads s (rule_record_at s at count height) count height a → RuleChecked s a
   pub front : Front (take count (starts_of s)) starts
   pub ahead : drop count (starts_of s) ≡ starts_from (records - count) s at
 
@@ -36,7 +33,7 @@ progress_none {s} {starts} f =
 
 -- One record more: its place goes into the array.
 pub progress_more : {s starts : List ℕ} {at count height on : ℕ} {r : Record} → Progress s starts at count height →
-    rule_record_at s at count height ≡ found.Record r on → Progress s (set starts count at) on (count + 1) (left height r)
+    rule_record_at s at count height ≡ Ok (Some (r, on)) → Progress s (set starts count at) on (count + 1) (left height r)
 progress_more {s} {starts} {at} {count} {height} {on} {r} p e =
     let good = read_good s at count height e in
     let before = p.room in
@@ -54,12 +51,16 @@ progress_more {s} {starts} {at} {count} {height} {on} {r} p e =
       ahead = rw (← drop-drop 1 count (starts_of s), ahead);
     }
 
+-- A rule that is refused is checked.
+refused_checked : {s : List ℕ} {f : Refusal} → RuleChecked s (Err f) → CheckedRule s (Err f)
+refused_checked p = record { answer = p; starts = tt }
+
 -- The end: one expression is left,
 pub progress_one : {s starts : List ℕ} {at count height : ℕ} → Progress s starts at count height → length s ≤ at → height ≡ 1 →
-    CheckedRule s (record { answer = answered.Rule count; starts = starts })
+    CheckedRule s (Ok (record { count = count; starts = starts }))
 progress_one {s} {starts} {at} {count} {height} p past h =
     record {
-      answer = p.answers (answered.Rule count) (rw (past_end s at count height past) (one h));
+      answer = p.answers (Ok count) (rw (past_end s at count height past) (one h));
       starts = rw (take_all count (starts_of s) all) at p.front;
     }
   where
@@ -70,16 +71,11 @@ progress_one {s} {starts} {at} {count} {height} p past h =
 
 -- or another number of them.
 pub progress_not_one : {s starts : List ℕ} {at count height : ℕ} → Progress s starts at count height → length s ≤ at → height ≢ 1 →
-    RuleChecked s (answered.Refused (refusal NotOne (length s)))
+    CheckedRule s (Err (refusal NotOne (length s)))
 progress_not_one {s} {starts} {at} {count} {height} p past h =
-    p.answers (answered.Refused (refusal NotOne (length s))) (rw (past_end s at count height past) (not_one h))
+    refused_checked (p.answers (Err (refusal NotOne (length s))) (rw (past_end s at count height past) (not_one h)))
 
 -- A record is refused.
 pub progress_refused : {s starts : List ℕ} {at count height : ℕ} {f : Refusal} → Progress s starts at count height →
-    rule_record_at s at count height ≡ found.Refused f → RuleChecked s (answered.Refused f)
-progress_refused {f = f} p e = p.answers (answered.Refused f) (rw e refused)
-
--- A rule that is refused, with an array of no places.
-pub refused_checked : {s : List ℕ} {r : RuleRead} {f : Refusal} → RuleChecked s (answered.Refused f) →
-    r.answer ≡ answered.Refused f → Front [] r.starts → CheckedRule s r
-refused_checked p e front = record { answer = rw e p; starts = rw e front }
+    rule_record_at s at count height ≡ Err f → CheckedRule s (Err f)
+progress_refused {f = f} p e = refused_checked (p.answers (Err f) (rw e refused))

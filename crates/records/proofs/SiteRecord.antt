@@ -10,11 +10,10 @@ use lib.Dec.{ltb, leb, eqb}
 use borrow.Author.Tests.{ltb-true, ltb-false, leb-true, leb-false, eqb-true, not-false, lt-ltb, le-ltb, lt-leb, eq-eqb}
 use Rattle.meaning.specs.Limits.{terms, triples}
 use Rattle.meaning.specs.Site as meant
-use Rattle.records.specs.Sites.{triple_kind, triple_width, triple_of, in_code, all_terms, is_above, is_in_order, site_record_at, Above, by_subject, by_predicate, by_object}
+use Rattle.records.specs.Sites.{triple_kind, triple_width, triple_of, in_code, all_terms, is_above, is_in_order, SiteFound, site_record_at, Above, by_subject, by_predicate, by_object}
 use Rattle.records.specs.declared.Triple.{Triple}
 use Rattle.records.specs.declared.Refusal.{Refusal}
-use Rattle.records.specs.declared.site.SiteRecord.{SiteRecord}
-use Rattle.records.specs.declared.site.SiteRecord.TheVariants.{Triple as Read, End, Refused}
+use Rattle.std.specs.Prelude.{Option, Some, None, Ok, Err, is_some}
 use Rattle.records.proofs.Tests.{by_test}
 
 -- a whole record that no test refuses
@@ -25,10 +24,10 @@ pub record Whole (s : List ℕ) (at : ℕ) : Type 0 where
   pub order : is_in_order s at (in_code (triple_of s at)) ≡ true
 
 -- what the tests show, whatever the refusals are
-data Outcome (s : List ℕ) (at : ℕ) : SiteRecord → Type 0 where
-  over : length s ≤ at → Outcome s at End
-  refused : {x : Refusal} → Outcome s at (Refused x)
-  read : Whole s at → Outcome s at (Read (in_code (triple_of s at)))
+data Outcome (s : List ℕ) (at : ℕ) : SiteFound → Type 0 where
+  over : length s ≤ at → Outcome s at (Ok None)
+  refused : {x : Refusal} → Outcome s at (Err x)
+  read : Whole s at → Outcome s at (Ok (Some (in_code (triple_of s at))))
 
 outcome : (s : List ℕ) (at : ℕ) → Outcome s at (site_record_at s at)
 unfolding site_record_at
@@ -47,14 +46,19 @@ outcome s at =
     })
 
 -- a triple is read from a whole record
-pub whole : {x : Triple} (s : List ℕ) (at : ℕ) → site_record_at s at ≡ Read x → Whole s at
+pub whole : {x : Triple} (s : List ℕ) (at : ℕ) → site_record_at s at ≡ Ok (Some x) → Whole s at
 whole s at e = go (rw e at (outcome s at))
   where
-    go : {y : Triple} → Outcome s at (Read y) → Whole s at
+    go : {y : Triple} → Outcome s at (Ok (Some y)) → Whole s at
     go (read w) = w
 
+-- of which every byte is there,
+pub some_fits : (s : List ℕ) (at : ℕ) (x : Option Triple) → site_record_at s at ≡ Ok x → is_some x ≡ true → at + triple_width ≤ length s
+some_fits s at (Some x) e some = (whole s at e).fits
+some_fits s at None e none = absurd (cc)
+
 -- and a whole record of a triple's kind is read
-pub read_whole : (s : List ℕ) (at : ℕ) → get_or s at 0 ≡ triple_kind → Whole s at → site_record_at s at ≡ Read (in_code (triple_of s at))
+pub read_whole : (s : List ℕ) (at : ℕ) → get_or s at 0 ≡ triple_kind → Whole s at → site_record_at s at ≡ Ok (Some (in_code (triple_of s at)))
 unfolding site_record_at
 read_whole s at kind w =
     let fits = w.fits in
@@ -63,10 +67,10 @@ read_whole s at kind w =
     simp (lt-leb _ _ here, lt-leb _ _ w.few, eq-eqb _ _ kind, le-ltb _ _ room, w.terms, w.order)
 
 -- a site ends where no byte is left
-pub ends : (s : List ℕ) (at : ℕ) → site_record_at s at ≡ End → length s ≤ at
+pub ends : (s : List ℕ) (at : ℕ) → site_record_at s at ≡ Ok None → length s ≤ at
 ends s at e = go (rw e at (outcome s at))
   where
-    go : Outcome s at End → length s ≤ at
+    go : Outcome s at (Ok None) → length s ≤ at
     go (over h) = h
 
 -- each number of a triple that passed is a term

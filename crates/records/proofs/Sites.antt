@@ -11,11 +11,11 @@ use lib.Seq.{get_or_at}
 use Rattle.meaning.specs.Limits.{terms, triples}
 use Rattle.meaning.specs.Site as meant
 use Rattle.records.specs.Sites.{triple_width, triple_of, SiteRead, ended, denied, one_more, Checked, site_of, Ascending, Accepted}
-use Rattle.records.specs.declared.site.SiteAnswer.{SiteAnswer}
-use Rattle.records.specs.declared.site.SiteAnswer.TheVariants.{Site}
+use Rattle.std.specs.Prelude.{Result, Ok}
+use Rattle.records.specs.declared.Refusal.{Refusal}
 use Rattle.records.proofs.SiteRecord.{Whole, whole, ends, Terms, terms_fit_all, in_order}
 
-read_unique : {s : List ℕ} {k : ℕ} {x y : SiteAnswer} → SiteRead s k x → SiteRead s k y → x ≡ y
+read_unique : {s : List ℕ} {k : ℕ} {x y : Result ℕ Refusal} → SiteRead s k x → SiteRead s k y → x ≡ y
 read_unique (ended e) (ended f) = refl
 read_unique (ended e) (denied f) = cc
 read_unique (ended e) (one_more f q) = cc
@@ -27,7 +27,7 @@ read_unique (one_more e p) (denied f) = cc
 read_unique (one_more e p) (one_more f q) = read_unique p q
 
 -- two answers to one site are equal
-pub checked_unique : {s : List ℕ} {x y : SiteAnswer} → Checked s x → Checked s y → x ≡ y
+pub checked_unique : {s : List ℕ} {x y : Result ℕ Refusal} → Checked s x → Checked s y → x ≡ y
 checked_unique p q = read_unique p q
 
 -- a site of n triples has n triples
@@ -55,7 +55,7 @@ record Rest (s : List ℕ) (k n : ℕ) : Type 0 where
   few : n ≤ triples
   each : (j : ℕ) → k ≤ j → j < n → Whole s (j * triple_width)
 
-rest : {s : List ℕ} {k n : ℕ} → k * triple_width ≤ length s → k ≤ triples → SiteRead s k (Site n) → Rest s k n
+rest : {s : List ℕ} {k n : ℕ} → k * triple_width ≤ length s → k ≤ triples → SiteRead s k (Ok n) → Rest s k n
 rest {s} {k} inside few (ended e) =
     record { long = omega (arith, ends s (k * triple_width) e); few = few; each = λ j a b. absurd (omega arith) }
 rest {s} {k} {n} inside few (one_more e p) =
@@ -68,7 +68,7 @@ rest {s} {k} {n} inside few (one_more e p) =
     }
 
 -- an accepted site is a site of document 01
-pub checked_site : {s : List ℕ} {n : ℕ} → Checked s (Site n) → Accepted s n
+pub checked_site : {s : List ℕ} {n : ℕ} → Checked s (Ok n) → Accepted s n
 checked_site {s} {n} p = record { long = all.long; few = all.few; within = within; ascending = ascending }
   where
     all : Rest s 0 n

@@ -2,13 +2,14 @@
 -- No law here looks at what the records are.
 use Prim.Native.Nat.{ℕ, zero, suc, ◌+◌, ◌≤◌, ◌<◌}
 use mathlib.Core.Path.{◌≡◌, refl, sym, ◌∙◌}
-use mathlib.Core.Bool.{Bool, true, false, cond}
-use mathlib.Core.List.{List, [], ◌∷◌, map}
+use mathlib.Core.List.{List, [], ◌∷◌}
 use native.Mathlib.Nat.{add-zero}
 use native.Mathlib.Omega.{arith}
 use native.Mathlib.Decide.{dec_lt, ℕ_discrete}
 use lib.ListN.{length, get_or, take, drop, set, replicate, length-map, length-set, length-take, length-replicate, get_or-eq_default}
 use lib.Seq.{ext_get_or, get_or-set_same, get_or-set_other, get_or-take, get_or-drop}
+use Rattle.std.proofs.lemmas.Bool.{cond_both}
+use Rattle.std.proofs.lemmas.List.{get_or-map, get_or-replicate}
 use lib.Dec.{leb}
 use borrow.Author.Tests.{lt-leb, le-leb}
 use Rattle.meaning.specs.Limits.{records}
@@ -31,36 +32,25 @@ starts_end (suc n) s at h = rw (le-leb _ _ h)
 pub starts_few : (n : ℕ) (s : List ℕ) (at : ℕ) → length (starts_from n s at) ≤ n
 unfolding starts_from
 starts_few zero s at = omega arith
-starts_few (suc n) s at = go (leb (length s) at) (starts_few n s (at + length_of (get_or s at 0)))
-  where
-    go : (t : Bool) → length (starts_from n s (at + length_of (get_or s at 0))) ≤ n →
-        length (cond t [] (at ∷ starts_from n s (at + length_of (get_or s at 0)))) ≤ suc n
-    go true h = omega arith
-    go false h = omega arith
+starts_few (suc n) s at =
+    cond_both (leb (length s) at) _ _ (λ (l : List ℕ). length l ≤ suc n) (λ past. omega arith)
+    (λ here. omega (arith, starts_few n s (at + length_of (get_or s at 0))))
 
 -- A rule has no more records than the limit,
 pub records_few : (s : List ℕ) → length (records_of s) ≤ records
 records_few s = simp length-map (starts_few records s 0)
 
--- and each is the record at its place.
-record_at_place : (s places : List ℕ) (k : ℕ) → k < length places →
-    get_or (map (rec_at s) places) k starring ≡ rec_at s (get_or places k 0)
-record_at_place s [] k h = absurd (omega arith)
-record_at_place s (at ∷ places) zero h = refl
-record_at_place s (at ∷ places) (suc k) h = record_at_place s places k (omega arith)
-
 -- Two arrays with the same places in front are equal.
 pub front_unique : {places a b : List ℕ} → Front places a → Front places b → a ≡ b
 front_unique {places} {a} {b} f g = ext_get_or 0 a b (f.long ∙ sym g.long) (λ k h. f.each k ∙ sym (g.each k))
 
-zeros : (n k : ℕ) → ◌≡◌ {A = ℕ} (get_or (replicate n 0) k 0) 0
-zeros zero k = refl
-zeros (suc n) zero = refl
-zeros (suc n) (suc k) = zeros n k
+zeros : (n k : ℕ) → Dec (k < n) → ◌≡◌ {A = ℕ} (get_or (replicate n 0) k 0) 0
+zeros n k (yes below) = get_or-replicate n k 0 0 below
+zeros n k (no past) = get_or-eq_default (replicate n 0) 0 (simp length-replicate (omega arith))
 
 -- An array of zeros has no place in front.
 pub front_none : Front [] (replicate records 0)
-front_none = record { long = length-replicate records 0; each = zeros records }
+front_none = record { long = length-replicate records 0; each = λ k. zeros records k (dec_lt k records) }
 
 -- The place of the next record goes into the array behind those before it.
 pub front_more : {starts later : List ℕ} {at : ℕ} (places : List ℕ) (count : ℕ) → Front (take count places) starts →
@@ -89,4 +79,4 @@ front_more {starts} {later} {at} places count f room e =
 -- An array with the places of a rule in front leads to each of its records.
 pub front_record : (s : List ℕ) {starts : List ℕ} → Front (starts_of s) starts → (k : ℕ) → k < length (records_of s) →
     get_or (records_of s) k starring ≡ rec_at s (get_or starts k 0)
-front_record s front k h = rw (front.each k) (record_at_place s (starts_of s) k (simp length-map at h))
+front_record s front k h = rw (front.each k) (get_or-map (rec_at s) (starts_of s) k 0 starring (simp length-map at h))

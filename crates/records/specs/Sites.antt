@@ -1,6 +1,6 @@
 -- A site read from its bytes, record by record (document 01, "Records" and "Numbered refusals").
 -- The tests at a record stand in the document's order, and the first that holds refuses it.
-use Rattle.std.specs.Prelude.{ℕ, zero, suc, ◌+◌, ◌*◌, ◌-◌, ◌/◌, ◌<◌, ◌≤◌, ◌≡◌, List, [], ◌∷◌, ◌++◌, Bool, true, cond, not, ◌&&◌, length, get_or, ltb, leb, eqb}
+use Rattle.std.specs.Prelude.{ℕ, zero, suc, ◌+◌, ◌*◌, ◌-◌, ◌/◌, ◌<◌, ◌≤◌, ◌≡◌, List, [], ◌∷◌, ◌++◌, Bool, true, cond, not, ◌&&◌, length, get_or, ltb, leb, eqb, Option, Some, None, Result, Ok, Err}
 use Rattle.meaning.specs.Limits.{terms, triples}
 use Rattle.meaning.specs.Site as meant
 use Rattle.records.specs.Bytes.{number16}
@@ -8,10 +8,6 @@ use Rattle.records.specs.declared.Triple.{Triple}
 use Rattle.records.specs.declared.Reason.{Reason}
 use Rattle.records.specs.declared.Reason.TheVariants.{SiteKind, SiteCut, SiteLong, SiteTerm, SiteOrder}
 use Rattle.records.specs.declared.Refusal.{Refusal}
-use Rattle.records.specs.declared.site.SiteRecord.{SiteRecord}
-use Rattle.records.specs.declared.site.SiteRecord.TheVariants.{Triple as Read, End, Refused}
-use Rattle.records.specs.declared.site.SiteAnswer.{SiteAnswer}
-use Rattle.records.specs.declared.site.SiteAnswer.TheVariants.{Site, Refused as Denied}
 
 -- a site record's kind, and its length in bytes
 abbrev pub triple_kind : ℕ
@@ -58,42 +54,40 @@ is_above x y =
 unfoldable pub is_in_order : List ℕ → ℕ → Triple → Bool
 is_in_order s at x = cond (ltb at triple_width) true (is_above x (in_code (triple_of s (at - triple_width))))
 
-abbrev pub denial : Reason → ℕ → SiteRecord
-denial why at = Refused (record { reason = why; place = at })
+-- what stands at a place of a site: a triple, the end, or a refusal
+abbrev pub SiteFound : Type 0
+SiteFound = Result (Option Triple) Refusal
+
+abbrev pub denial : Reason → ℕ → SiteFound
+denial why at = Err (record { reason = why; place = at })
 
 -- what stands at a place, which is a record's number times its length:
 -- the end, the first of the refusals 4, 2, 3, 5 and 6 that holds, or a triple
-unfoldable pub site_record_at : List ℕ → ℕ → SiteRecord
+unfoldable pub site_record_at : List ℕ → ℕ → SiteFound
 site_record_at s at =
-    cond (leb (length s) at) End
+    cond (leb (length s) at) (Ok None)
     (cond (leb (triples * triple_width) at) (denial SiteLong at)
     (cond (not (eqb (get_or s at 0) triple_kind)) (denial SiteKind at)
     (cond (ltb (length s - at) triple_width) (denial SiteCut at)
     (cond (not (all_terms (in_code (triple_of s at)))) (denial SiteTerm at)
     (cond (not (is_in_order s at (in_code (triple_of s at)))) (denial SiteOrder at)
-    (Read (in_code (triple_of s at))))))))
+    (Ok (Some (in_code (triple_of s at)))))))))
 
 -- the answer to reading on from record number k
-pub data SiteRead (s : List ℕ) : ℕ → SiteAnswer → Type 0 where
-  ended : {k : ℕ} → site_record_at s (k * triple_width) ≡ End → SiteRead s k (Site k)
-  denied : {k : ℕ} {x : Refusal} → site_record_at s (k * triple_width) ≡ Refused x → SiteRead s k (Denied x)
-  one_more : {k : ℕ} {x : Triple} {answer : SiteAnswer} → site_record_at s (k * triple_width) ≡ Read x →
+pub data SiteRead (s : List ℕ) : ℕ → Result ℕ Refusal → Type 0 where
+  ended : {k : ℕ} → site_record_at s (k * triple_width) ≡ Ok None → SiteRead s k (Ok k)
+  denied : {k : ℕ} {x : Refusal} → site_record_at s (k * triple_width) ≡ Err x → SiteRead s k (Err x)
+  one_more : {k : ℕ} {x : Triple} {answer : Result ℕ Refusal} → site_record_at s (k * triple_width) ≡ Ok (Some x) →
       SiteRead s (k + 1) answer → SiteRead s k answer
 
 -- the answer to reading all of it: so many triples, or the first refusal
-abbrev pub Checked : List ℕ → SiteAnswer → Type 0
+abbrev pub Checked : List ℕ → Result ℕ Refusal → Type 0
 Checked s answer = SiteRead s 0 answer
 
 -- a record begins at a place, and what is answered to reading on from there is answered to the site
 pub record Begun (s : List ℕ) (at : ℕ) : Type 0 where
   pub place : at / triple_width * triple_width ≡ at
-  pub rest : (answer : SiteAnswer) → SiteRead s (at / triple_width) answer → Checked s answer
-
--- the answer where reading stops after k triples; at a triple it does not stop
-abbrev pub finished : SiteRecord → ℕ → SiteAnswer
-finished (Read x) k = Site k
-finished End k = Site k
-finished (Refused x) k = Denied x
+  pub rest : (answer : Result ℕ Refusal) → SiteRead s (at / triple_width) answer → Checked s answer
 
 -- the site of the first n triples
 unfoldable pub site_of : List ℕ → ℕ → meant.Site

@@ -9,6 +9,11 @@ pub mod query; // query.rt: the terms of a query
 
 ghost use Rattle.std.specs.Prelude.{◌≡◌};
 ghost use Rattle.records.specs.Refusals.{number_of};
+ghost use Rattle.records.specs.declared.Reason.{Reason};
+ghost use Rattle.records.specs.Rules.{refusal};
+
+use std::error::Error;
+use std::fmt;
 
 pub const TERMS: usize = 256;
 
@@ -18,8 +23,8 @@ pub const RECORDS: usize = 32;
 
 pub const NONE: usize = 65535;
 
-// One triple of a site.
-#[derive(Clone, Copy)]
+// One triple of a site. Triples are ordered by subject, then predicate, then object, as a site has them.
+#[derive(Clone, Copy, Debug, PartialEq, Eq, PartialOrd, Ord)]
 pub struct Triple {
     pub subject: usize,
     pub predicate: usize,
@@ -27,22 +32,34 @@ pub struct Triple {
 }
 
 // The label of a step: none, a named term, or a test, which is the expression before it.
-#[derive(Clone, Copy)]
+#[derive(Clone, Copy, Debug, PartialEq, Eq)]
 pub enum Label {
     Any,
     Term(usize),
     Test,
 }
 
-// A step holds its axis (0 self, 1 next, 2 next inverse, 3 edge, 4 edge inverse, 5 node, 6 node inverse) and its label.
-#[derive(Clone, Copy)]
+// How a step takes a triple: next from its subject past its predicate to its object, edge from its subject past its object to its
+// predicate, node from its predicate past its subject to its object; the inverses go back.
+#[derive(Clone, Copy, Debug, PartialEq, Eq)]
+pub enum Axis {
+    Next,
+    NextInverse,
+    Edge,
+    EdgeInverse,
+    Node,
+    NodeInverse,
+}
+
+// A step holds its axis, none where it is self and takes no triple, and its label.
+#[derive(Clone, Copy, Debug, PartialEq, Eq)]
 pub struct Step {
-    pub axis: usize,
+    pub axis: Option<Axis>,
     pub label: Label,
 }
 
 // One record of a rule.
-#[derive(Clone, Copy)]
+#[derive(Clone, Copy, Debug, PartialEq, Eq)]
 pub enum Record {
     Step(Step),
     Sequence,
@@ -50,29 +67,41 @@ pub enum Record {
     Star,
 }
 
-// Why an input is refused; document 01's number of each is given once, by `number_of`.
-#[derive(Clone, Copy)]
+// Why an input is refused, with document 01's number of each reason: `number_of` in specs/ is the same table.
+#[derive(Clone, Copy, Debug, PartialEq, Eq)]
 pub enum Reason {
-    TableLength,
-    SiteKind,
-    SiteCut,
-    SiteLong,
-    SiteTerm,
-    SiteOrder,
-    RuleLong,
-    RuleKind,
-    RuleCut,
-    RuleAxis,
-    RuleTerm,
-    TooFew,
-    NotOne,
-    QueryTerm,
-    Room,
-    Input,
+    TableLength = 1,
+    SiteKind = 2,
+    SiteCut = 3,
+    SiteLong = 4,
+    SiteTerm = 5,
+    SiteOrder = 6,
+    RuleLong = 7,
+    RuleKind = 8,
+    RuleCut = 9,
+    RuleAxis = 10,
+    RuleTerm = 11,
+    TooFew = 12,
+    NotOne = 13,
+    QueryTerm = 14,
+    Room = 15,
+    Input = 16,
+}
+
+impl Reason {
+    // The refusal for this reason at a place.
+    pub(crate) fn at(self, place: usize) -> Refusal
+        ensures { result ≡ refusal self place }
+    {
+        Refusal {
+            reason: self,
+            place,
+        }
+    }
 }
 
 // A refusal: why, and the place.
-#[derive(Clone, Copy)]
+#[derive(Clone, Copy, Debug, PartialEq, Eq)]
 pub struct Refusal {
     pub reason: Reason,
     pub place: usize,
@@ -82,22 +111,27 @@ pub struct Refusal {
 pub fn number(reason: Reason) -> u32
     ensures { result ≡ number_of reason }
 {
-    match reason {
-        Reason::TableLength => 1,
-        Reason::SiteKind => 2,
-        Reason::SiteCut => 3,
-        Reason::SiteLong => 4,
-        Reason::SiteTerm => 5,
-        Reason::SiteOrder => 6,
-        Reason::RuleLong => 7,
-        Reason::RuleKind => 8,
-        Reason::RuleCut => 9,
-        Reason::RuleAxis => 10,
-        Reason::RuleTerm => 11,
-        Reason::TooFew => 12,
-        Reason::NotOne => 13,
-        Reason::QueryTerm => 14,
-        Reason::Room => 15,
-        Reason::Input => 16,
+    reason as u32
+}
+
+impl From<Reason> for u32 {
+    ghost from_gives = { λ reason number. number ≡ number_of reason };
+
+    fn from(reason: Reason) -> u32 {
+        number(reason)
     }
 }
+
+// A refusal is printed as document 01's number of its reason, and its place.
+impl fmt::Display for Refusal {
+    ghost use Rattle.std.specs.Prelude.{Some};
+    ghost use Rattle.records.specs.Refusals.{refusal_text};
+
+    ghost output = { λ x. Some (refusal_text x) };
+
+    fn fmt<W: fmt::Write>(&self, f: &mut fmt::Formatter<W>) -> fmt::Result {
+        write!(f, "{} {}", number(self.reason), self.place)
+    }
+}
+
+impl Error for Refusal {}

@@ -1,40 +1,27 @@
 // A rule, read from its records: kinds 1 to 6 in postfix order, refusals 7 to 13.
 // A record's length and its decoding stand side by side; whoever reads a rule reads it through them.
-ghost use Rattle.std.specs.Prelude.{◌≡◌, ◌+◌, ◌<◌, ◌≢◌, [], get_or};
+ghost use Rattle.std.specs.Prelude.{◌≡◌, ◌+◌, ◌<◌, ◌≢◌, get_or};
 ghost use Rattle.meaning.specs.Limits.{records};
 ghost use Rattle.meaning.specs.Expression.{operands};
-ghost use Rattle.records.specs.Rules.{rec_of, length_of, record_at, axis_of, term_of, refusal, judged, rule_record_at, starts_of, records_of, Front, CheckedRule};
+ghost use Rattle.records.specs.Rules.{rec_of, length_of, record_at, axis_coded, axis_at, term_of, judged, rule_record_at, starts_of, records_of, Front, CheckedRule};
 ghost use Rattle.records.specs.First.{First, Ends, taken, Inside};
 
 use crate::bytes::{BASE, byte_after, byte_at};
-use crate::{Label, RECORDS, Reason, Record, Refusal, Step, TERMS};
+use crate::{Axis, Label, RECORDS, Reason, Record, Refusal, Step, TERMS};
 
 const LAST_AXIS: usize = 6;
 
-// What stands at a place of a rule: a record and the place of the next, the end, or a refusal.
-#[derive(Clone, Copy)]
-pub enum RuleRecord {
-    Record(Record, usize),
-    End,
-    Refused(Refusal),
-}
-
-// The answer to a rule: how many records it has, or why it is refused.
-#[derive(Clone, Copy)]
-pub enum RuleAnswer {
-    Rule(usize),
-    Refused(Refusal),
-}
-
-// A checked rule: the answer, and the places of its records in front, 0 behind; all 0 where it is refused.
+// A rule that is read: how many records it has, and the places of its records in front, 0 behind.
 // Records are so short that a place is a byte.
 #[derive(Clone, Copy)]
 pub struct RuleRead {
-    pub answer: RuleAnswer,
+    pub count: usize,
     pub starts: [u8; RECORDS],
 }
 
-// How many bytes a record of this kind has, its kind included; 0 where there is no such kind.
+// How many bytes a record of this kind has, its kind included; 0 where there is no such kind. Each kind has an arm of its own: so
+// the compiled rule reader takes fewer instructions than with kinds of one length in one arm.
+#[tactic(auto, unfolding(crate::specs::Rules::length_of))]
 fn length_of(kind: usize) -> usize
     ensures { result ≡ length_of kind }
 {
@@ -49,12 +36,29 @@ fn length_of(kind: usize) -> usize
     }
 }
 
+// The axis with this number, none for self. Of a number that no axis has it is some axis.
+#[tactic(auto, unfolding(crate::specs::Rules::axis_coded))]
+fn axis_numbered(number: usize) -> Option<Axis>
+    ensures { result ≡ axis_coded number }
+{
+    match number {
+        0 => None,
+        1 => Some(Axis::Next),
+        2 => Some(Axis::NextInverse),
+        3 => Some(Axis::Edge),
+        4 => Some(Axis::EdgeInverse),
+        5 => Some(Axis::Node),
+        _ => Some(Axis::NodeInverse),
+    }
+}
+
 // The record whose kind stands at this place of a rule that has been checked. Of any other place it is some record.
+#[tactic(auto, unfolding(crate::specs::Rules::record_at, crate::specs::Bytes::number16))]
 fn record_at(rule: &[u8], at: usize) -> Record
     ensures { result ≡ record_at rule.now at }
 {
     let kind = byte_after(rule, at, 0);
-    let axis = byte_after(rule, at, 1);
+    let axis = axis_numbered(byte_after(rule, at, 1));
     match kind {
         1 => Record::Step(Step {
             axis,
@@ -75,6 +79,7 @@ fn record_at(rule: &[u8], at: usize) -> Record
 }
 
 // The record with this number, by the places of the rule's records.
+#[tactic(auto, unfolding(meaning::specs::Limits::records))]
 pub fn record_of(rule: &[u8], starts: &[u8; RECORDS], r: usize) -> Record
     requires { r < records }
     ensures { result ≡ record_at rule.now (get_or starts.now r 0) }
@@ -82,15 +87,14 @@ pub fn record_of(rule: &[u8], starts: &[u8; RECORDS], r: usize) -> Record
     record_at(rule, byte_at(starts, r))
 }
 
-// The axis of a step; 0 for other records.
-fn axis_of(rec: Record) -> usize
-    ensures { result ≡ axis_of rec }
+// The number of the axis of the record at this place; 0 where its kind has none.
+#[tactic(auto, unfolding(crate::specs::Rules::axis_at))]
+fn axis_at(rule: &[u8], at: usize) -> usize
+    ensures { result ≡ axis_at rule.now at }
 {
-    match rec {
-        Record::Step(step) => step.axis,
-        Record::Sequence => 0,
-        Record::Choice => 0,
-        Record::Star => 0,
+    match byte_after(rule, at, 0) {
+        1..=3 => byte_after(rule, at, 1),
+        _ => 0,
     }
 }
 
@@ -99,17 +103,13 @@ fn term_of(rec: Record) -> usize
     ensures { result ≡ term_of rec }
 {
     match rec {
-        Record::Step(step) => {
-            let label = step.label;
-            match label {
-                Label::Any => 0,
-                Label::Term(term) => term,
-                Label::Test => 0,
-            }
-        }
-        Record::Sequence => 0,
-        Record::Choice => 0,
-        Record::Star => 0,
+        Record::Step(
+            Step {
+                label: Label::Term(term),
+                ..
+            },
+        ) => term,
+        _ => 0,
     }
 }
 
@@ -118,99 +118,86 @@ pub fn operands_of(rec: Record) -> usize
     ensures { result ≡ operands (rec_of rec) }
 {
     match rec {
-        Record::Step(step) => {
-            let label = step.label;
-            match label {
-                Label::Any => 0,
-                Label::Term(_) => 0,
-                Label::Test => 1,
-            }
-        }
-        Record::Sequence => 2,
-        Record::Choice => 2,
+        Record::Sequence | Record::Choice => 2,
         Record::Star => 1,
+        Record::Step(
+            Step {
+                label: Label::Test,
+                ..
+            },
+        ) => 1,
+        Record::Step(_) => 0,
     }
 }
 
-fn refused(reason: Reason, place: usize) -> RuleRecord
-    ensures { result ≡ RuleRecord.Refused (refusal reason place) }
+// A record that is whole, its axis having this number, with the place of the next, or why it is refused.
+#[tactic(auto, unfolding(crate::specs::Rules::judged, meaning::specs::Limits::terms))]
+fn judge(
+    rec: Record,
+    axis: usize,
+    at: usize,
+    next: usize,
+    height: usize,
+) -> Result<Option<(Record, usize)>, Refusal>
+    ensures { result ≡ judged rec axis at next height }
 {
-    RuleRecord::Refused(Refusal { reason, place })
-}
-
-// A record that is whole, with the place of the next, or why it is refused.
-fn judge(rec: Record, at: usize, next: usize, height: usize) -> RuleRecord
-    ensures { result ≡ judged rec at next height }
-{
-    let axis = axis_of(rec);
     let term = term_of(rec);
     let taken = operands_of(rec);
     if LAST_AXIS < axis {
-        return refused(Reason::RuleAxis, at);
+        return Err(Reason::RuleAxis.at(at));
     }
     if TERMS <= term {
-        return refused(Reason::RuleTerm, at);
+        return Err(Reason::RuleTerm.at(at));
     }
     if height < taken {
-        return refused(Reason::TooFew, at);
+        return Err(Reason::TooFew.at(at));
     }
-    RuleRecord::Record(rec, next)
+    Ok(Some((rec, next)))
 }
 
 // What stands at a place of a rule, `count` records and `height` expressions being before it.
-pub fn rule_record(rule: &[u8], at: usize, count: usize, height: usize) -> RuleRecord
+#[tactic(auto, unfolding(crate::specs::Rules::rule_record_at, meaning::specs::Limits::records))]
+pub fn rule_record(
+    rule: &[u8],
+    at: usize,
+    count: usize,
+    height: usize,
+) -> Result<Option<(Record, usize)>, Refusal>
     ensures { result ≡ rule_record_at rule.now at count height }
 {
-    if rule.len() <= at {
-        return RuleRecord::End;
-    }
+    let Some(kind) = rule.get(at) else {
+        return Ok(None);
+    };
     if RECORDS <= count {
-        return refused(Reason::RuleLong, at);
+        return Err(Reason::RuleLong.at(at));
     }
-    let length = length_of(byte_after(rule, at, 0));
+    let length = length_of(*kind as usize);
     if length == 0 {
-        return refused(Reason::RuleKind, at);
+        return Err(Reason::RuleKind.at(at));
     }
     if rule.len() - at < length {
-        return refused(Reason::RuleCut, at);
+        return Err(Reason::RuleCut.at(at));
     }
-    judge(record_at(rule, at), at, at + length, height)
-}
-
-// The refusal that was found, where one was.
-fn refusal_of(found: RuleRecord) -> Refusal
-    ensures { (f : Refusal) → found ≡ RuleRecord.Refused f → result ≡ f }
-{
-    let RuleRecord::Refused(refusal) = found else {
-        return Refusal {
-            reason: Reason::NotOne,
-            place: 0,
-        };
-    };
-    refusal
-}
-
-fn refused_rule(refusal: Refusal) -> RuleRead
-    ensures { (result.answer ≡ RuleAnswer.Refused refusal) × Front [] result.starts }
-{
-    RuleRead {
-        answer: RuleAnswer::Refused(refusal),
-        starts: [0; RECORDS],
-    }
+    judge(
+        record_at(rule, at),
+        axis_at(rule, at),
+        at,
+        at + length,
+        height,
+    )
 }
 
 // Checks a rule, record by record.
-pub fn check_rule(rule: &[u8]) -> RuleRead
+pub fn check_rule(rule: &[u8]) -> Result<RuleRead, Refusal>
     ensures { CheckedRule rule.now result }
 {
     let mut starts = [0; RECORDS];
     let mut at = 0;
     let mut count = 0;
     let mut height = 0;
-    while at < rule.len() {
-        let found = rule_record(rule, at, count, height);
-        let RuleRecord::Record(record, next) = found else {
-            return refused_rule(refusal_of(found));
+    loop {
+        let Some((record, next)) = rule_record(rule, at, count, height)? else {
+            break;
         };
         starts[count] = at as u8;
         at = next;
@@ -218,15 +205,9 @@ pub fn check_rule(rule: &[u8]) -> RuleRead
         height = height - operands_of(record) + 1;
     }
     if height != 1 {
-        return refused_rule(Refusal {
-            reason: Reason::NotOne,
-            place: rule.len(),
-        });
+        return Err(Reason::NotOne.at(rule.len()));
     }
-    RuleRead {
-        answer: RuleAnswer::Rule(count),
-        starts,
-    }
+    Ok(RuleRead { count, starts })
 }
 
 // The record that stands inside all those, from `last` down, which take one operand: it ends just before the least of them.

@@ -2,7 +2,7 @@
 // `site_record` decides what stands at a place. The reader only keeps the bytes and the place.
 ghost use Rattle.std.specs.Prelude.{◌≡◌, ◌+◌, ◌*◌, ◌-◌, ◌<◌, ◌≤◌, true, length};
 ghost use Rattle.meaning.specs.Limits.{triples};
-ghost use Rattle.records.specs.Sites.{triple_width, triple_of, term_at, in_code, all_terms, is_above, is_in_order, denial, site_record_at, finished, Checked, Begun};
+ghost use Rattle.records.specs.Sites.{triple_width, triple_of, term_at, in_code, all_terms, is_in_order, site_record_at, Checked, Begun};
 ghost use Rattle.records.specs.Plain.{Plain};
 ghost use Rattle.records.specs.Reader.{handed, standing, Hands};
 
@@ -21,33 +21,16 @@ pub const PREDICATE: usize = 4;
 
 pub const OBJECT: usize = 6;
 
-// What stands at a place of a site.
-#[derive(Clone, Copy)]
-pub enum SiteRecord {
-    Triple(Triple),
-    End,
-    Refused(Refusal),
-}
-
-// What a whole site is: so many triples, or refused.
-#[derive(Clone, Copy)]
-pub enum SiteAnswer {
-    Site(usize),
-    Refused(Refusal),
-}
-
 // The triple of the whole record that begins at a place.
+#[tactic(auto, unfolding(crate::specs::Sites::triple_of))]
 fn triple_from(site: &[u8], at: usize) -> Triple
     requires { at + triple_width ≤ length site.now }
     ensures { result ≡ in_code (triple_of site.now at) }
 {
-    let subject = number_at(site, at + 1);
-    let predicate = number_at(site, at + 3);
-    let object = number_at(site, at + 5);
     Triple {
-        subject,
-        predicate,
-        object,
+        subject: number_at(site, at + 1),
+        predicate: number_at(site, at + 3),
+        object: number_at(site, at + 5),
     }
 }
 
@@ -60,6 +43,7 @@ pub fn triple_at(site: &[u8], k: usize) -> Triple
 }
 
 // The term that stands at a part of triple number k.
+#[tactic(auto, unfolding(crate::specs::Sites::term_at))]
 pub fn term_at(site: &[u8], k: usize, part: usize) -> usize
     requires { ((k + 1) * triple_width ≤ length site.now) × (part < triple_width) }
     ensures { result ≡ term_at site.now k part }
@@ -68,104 +52,54 @@ pub fn term_at(site: &[u8], k: usize, part: usize) -> usize
 }
 
 // Each of its numbers is a term.
+#[tactic(auto, unfolding(crate::specs::Sites::all_terms))]
 fn all_terms(x: Triple) -> bool
     ensures { result ≡ all_terms x }
 {
-    if is_term(x.subject) {
-        if is_term(x.predicate) {
-            return is_term(x.object);
-        }
-    }
-    false
-}
-
-// It stands above another: the first number that differs is greater.
-fn is_above(x: Triple, y: Triple) -> bool
-    ensures { result ≡ is_above x y }
-{
-    if x.subject != y.subject {
-        return y.subject < x.subject;
-    }
-    if x.predicate != y.predicate {
-        return y.predicate < x.predicate;
-    }
-    y.object < x.object
+    is_term(x.subject) && is_term(x.predicate) && is_term(x.object)
 }
 
 // The record is the first, or its triple stands above that of the record before.
+#[tactic(auto, unfolding(crate::specs::Sites::is_in_order, crate::specs::Sites::is_above))]
 fn in_order(site: &[u8], at: usize, x: Triple) -> bool
     requires { at + triple_width ≤ length site.now }
     ensures { result ≡ is_in_order site.now at x }
 {
-    if at < TRIPLE_WIDTH {
-        return true;
-    }
-    is_above(x, triple_from(site, at - TRIPLE_WIDTH))
-}
-
-fn refused(reason: Reason, place: usize) -> SiteRecord
-    ensures { result ≡ denial reason place }
-{
-    SiteRecord::Refused(Refusal { reason, place })
+    at < TRIPLE_WIDTH || triple_from(site, at - TRIPLE_WIDTH) < x
 }
 
 // The record that begins at a place: its triple, the end, or the first of the refusals 4, 2, 3, 5 and 6 that holds.
-pub fn site_record(site: &[u8], at: usize) -> SiteRecord
+#[tactic(auto, unfolding(crate::specs::Sites::site_record_at, meaning::specs::Limits::triples))]
+pub fn site_record(site: &[u8], at: usize) -> Result<Option<Triple>, Refusal>
     ensures { result ≡ site_record_at site.now at }
 {
-    if site.len() <= at {
-        return SiteRecord::End;
-    }
-    let kind = site[at];
-    let left = site.len() - at;
+    let Some(kind) = site.get(at) else {
+        return Ok(None);
+    };
     if TRIPLES * TRIPLE_WIDTH <= at {
-        return refused(Reason::SiteLong, at);
+        return Err(Reason::SiteLong.at(at));
     }
-    if kind != TRIPLE_KIND {
-        return refused(Reason::SiteKind, at);
+    if *kind != TRIPLE_KIND {
+        return Err(Reason::SiteKind.at(at));
     }
-    if left < TRIPLE_WIDTH {
-        return refused(Reason::SiteCut, at);
+    if site.len() - at < TRIPLE_WIDTH {
+        return Err(Reason::SiteCut.at(at));
     }
     let x = triple_from(site, at);
     if !all_terms(x) {
-        return refused(Reason::SiteTerm, at);
+        return Err(Reason::SiteTerm.at(at));
     }
     if !in_order(site, at, x) {
-        return refused(Reason::SiteOrder, at);
+        return Err(Reason::SiteOrder.at(at));
     }
-    SiteRecord::Triple(x)
+    Ok(Some(x))
 }
 
 // What is handed out at a place, and the place where reading goes on.
 #[derive(Clone, Copy)]
 pub struct Handed {
-    pub found: SiteRecord,
+    pub found: Result<Option<Triple>, Refusal>,
     pub at: usize,
-}
-
-// The record at a place, and the place past its triple; at the end and at a refusal reading stands still.
-fn hand_out(site: &[u8], at: usize) -> Handed
-    ensures { result ≡ handed site.now at }
-{
-    let found = site_record(site, at);
-    let SiteRecord::Triple(_) = found else {
-        return Handed { found, at };
-    };
-    Handed {
-        found,
-        at: at + TRIPLE_WIDTH,
-    }
-}
-
-// How many bytes stand at a place and behind it.
-fn left_from(site: &[u8], at: usize) -> usize
-    ensures { result ≡ length site.now - at }
-{
-    if site.len() <= at {
-        return 0;
-    }
-    site.len() - at
 }
 
 // The site reader: the lent bytes and its place in them. The count of triples read is the place divided by a record's length.
@@ -184,19 +118,21 @@ impl<'a> SiteReader<'a> {
     }
 
     // The next triple, the end, or the refusal; after the end or a refusal the same again.
-    pub fn next<'s>(&'s mut self) -> SiteRecord
+    pub fn next(&mut self) -> Result<Option<Triple>, Refusal>
         ensures { Hands self.old result self.new }
     {
-        let step = hand_out(self.site, self.at);
-        self.at = step.at;
-        step.found
+        let found = site_record(self.site, self.at)?;
+        if found.is_some() {
+            self.at += TRIPLE_WIDTH;
+        }
+        Ok(found)
     }
 
     // How many bytes are left.
     pub fn left(self) -> usize
         ensures { result ≡ length self.entry.site.now - self.entry.at }
     {
-        left_from(self.site, self.at)
+        self.site.len().saturating_sub(self.at)
     }
 }
 
@@ -212,48 +148,26 @@ pub fn read_at(site: &[u8], at: usize) -> Handed
     }
 }
 
-// The answer where reading stops after so many triples; at a triple it does not stop.
-fn finish(got: SiteRecord, count: usize) -> SiteAnswer
-    ensures { result ≡ finished got count }
-{
-    match got {
-        SiteRecord::Triple(_) => SiteAnswer::Site(count),
-        SiteRecord::End => SiteAnswer::Site(count),
-        SiteRecord::Refused(x) => SiteAnswer::Refused(x),
-    }
-}
-
 // The eight bytes of a record and the next one's kind show it sound: both kinds are a triple's, the high bytes of its terms are 0,
 // and the number is above that of the record before. In this order the compiler makes one test of the first four.
 fn is_plain(eight: usize, before: usize) -> bool
     ensures { result ≡ true → Plain eight × (before < eight) }
 {
-    if eight % BASE != TRIPLE_KIND as usize {
-        return false;
-    }
-    if eight / TWO_BYTES % BASE != 0 {
-        return false;
-    }
-    if eight / FOUR_BYTES % BASE != 0 {
-        return false;
-    }
-    if eight / FOUR_BYTES / TWO_BYTES != TRIPLE_KIND as usize * BASE {
-        return false;
-    }
-    before < eight
+    eight % BASE == TRIPLE_KIND as usize
+        && eight / TWO_BYTES % BASE == 0
+        && eight / FOUR_BYTES % BASE == 0
+        && eight / FOUR_BYTES / TWO_BYTES == TRIPLE_KIND as usize * BASE
+        && before < eight
 }
 
 // Where the last whole record begins, of as many as are allowed: a record before it has eight bytes.
+#[tactic(auto, unfolding(meaning::specs::Limits::triples))]
 fn last_place(site: &[u8]) -> usize
     ensures { (result ≤ length site.now - triple_width) × (result < triples * triple_width) }
 {
-    if site.len() < TRIPLE_WIDTH {
-        return 0;
-    }
-    if TRIPLES * TRIPLE_WIDTH < site.len() {
-        return (TRIPLES - 1) * TRIPLE_WIDTH;
-    }
-    site.len() - TRIPLE_WIDTH
+    site.len()
+        .min(TRIPLES * TRIPLE_WIDTH)
+        .saturating_sub(TRIPLE_WIDTH)
 }
 
 // The place up to which every record is plainly sound; the last is left to the reader.
@@ -275,16 +189,13 @@ fn plain_until(site: &[u8]) -> usize
 }
 
 // All of a site: how many triples it has, or its first refusal. The reader begins where the records are not plainly sound.
-pub fn check_site(site: &[u8]) -> SiteAnswer
+pub fn check_site(site: &[u8]) -> Result<usize, Refusal>
     ensures { Checked site.now result }
 {
-    let mut at = plain_until(site);
+    let mut reader = SiteReader::new(site, plain_until(site));
     loop {
-        let step = read_at(site, at);
-        let found = step.found;
-        let SiteRecord::Triple(_) = found else {
-            return finish(found, at / TRIPLE_WIDTH);
+        let Some(_) = reader.next()? else {
+            return Ok(reader.at / TRIPLE_WIDTH);
         };
-        at = step.at;
     }
 }

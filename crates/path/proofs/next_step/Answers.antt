@@ -9,5 +9,5 @@ pub returns : goal.returns
 unfolding records
 returns c =
     let pre = c.requires in
-    open_picked (c.enter.ensures _ _ _ (c.word-here.ensures _ pre.1 pre.3) all_shut)
+    open_picked (c.enter.ensures _ _ _ (c.word-here.ensures _ pre.0 pre.1) all_shut)
     c.choose.ensures

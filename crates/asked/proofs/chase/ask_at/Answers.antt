@@ -1,50 +1,45 @@
-use mathlib.Core.Path.{refl, ◌∙◌}
+use mathlib.Core.Path.{refl}
 use mathlib.Core.Logic.{◌⊎◌, inl, inr}
 use native.Mathlib.Omega.{arith}
-use Rattle.meaning.specs.Limits.{records}
 use Rattle.meaning.specs.Fewest.{anywhere}
 use Rattle.fewest.proofs.Keeping.{threads_kept}
 use Rattle.fewest.proofs.Places.{place_below}
-use Rattle.asked.specs.Seek.{Whole}
 use Rattle.asked.proofs.Marking.{marks_on_bits}
 use Rattle.asked.proofs.Serving.{turned}
 use Rattle.asked.proofs.Chasing.{chased_none, chased_then}
+use Rattle.fewest.specs.Offer.{place}
+use Rattle.asked.specs.Serve.{Waits, Fewer}
+use Rattle.asked.specs.Task.{ChasedIn}
 use Rattle.asked.proofs.chase.ask_at.Goals as goal
+use Rattle.asked.proofs.chase.ask_at.Goals.{After-ask_one}
 
 -- which turn it is need not be known
 first-turn : {A B C D : Type 0} → (A × B × C) ⊎ D → (A × B) ⊎ D
 first-turn (inl (a, b, _)) = inl (a, b)
 first-turn (inr d) = inr d
 
-pub loop-turns-init : goal.loop-turns-init
-loop-turns-init c = (c.requires.4, chased_none, inl (refl, refl, refl))
+pub loop-turn-init : goal.loop-turn-init
+loop-turn-init c = (c.requires.1, chased_none, inl (refl, refl, refl))
 
-pub ask_one-tail-requires : goal.ask_one-tail-requires
-unfolding Whole
-ask_one-tail-requires c =
-    let p = c.requires in
-    let (row, chased, _) = c.loop-turns.invariant in
-    (p.0, p.1, chased.long ∙ p.2, marks_on_bits (chased.reached anywhere) p.3, row, p.5, threads_kept p.0.good chased.below p.6)
+pub ask_one-requires : goal.ask_one-requires
+ask_one-requires c =
+    let (bits, _, small, threads) = c.requires in
+    let (row, chased, _) = c.loop-turn.invariant in
+    (marks_on_bits (chased.reached anywhere) bits, row, small, threads_kept c.args.task.now.site.accepted chased.below threads)
 
-pub lowest-next-requires : goal.lowest-next-requires
-unfolding Whole
-lowest-next-requires c =
-    let p = c.requires in
-    ((chased_then c.loop-turns.invariant.1 c.ask_one-tail.ensures.0).long ∙ p.2, p.5)
+-- what this turn leaves
+module _ (c : After-ask_one) where
+  chased : ChasedIn c.args.task.now c.args.numbers.now c.args.asked.now c.args.ends.now c.ask_one.new.asked c.ask_one.new.ends
+  chased = chased_then c.loop-turn.invariant.1 c.ask_one.ensures.0
 
-pub returns-then-count-next : goal.returns-then-count-next
-returns-then-count-next c =
-    let p = c.requires in
-    let few = p.0.few in
-    (chased_then c.loop-turns.invariant.1 c.ask_one-tail.ensures.0, turned (first-turn c.loop-turns.invariant.2) (place_below (omega arith) p.5) c.ask_one-tail.ensures.1)
+  falls : Waits c.args.asked.now (place c.args.from c.args.t) → Fewer c.args.asked.now c.ask_one.new.asked
+  falls =
+      let few = c.args.task.now.ready.few in
+      let row = c.loop-turn.invariant.0 in
+      turned (first-turn c.loop-turn.invariant.2) (place_below (omega arith) c.requires.2) c.ask_one.ensures.1
 
-pub loop-turns-smaller : goal.loop-turns-smaller
-unfolding records
-loop-turns-smaller c = omega arith
+pub returns-in_default : goal.returns-in_default
+returns-in_default c = let at = (goal.at.returns-in_default c).After-ask_one in (chased at, falls at)
 
-pub loop-turns-preserved : goal.loop-turns-preserved
-loop-turns-preserved c =
-    let p = c.requires in
-    let few = p.0.few in
-    let row = c.loop-turns.invariant.0 in
-    (c.if-count-next.false, chased_then c.loop-turns.invariant.1 c.ask_one-tail.ensures.0, inr (turned (first-turn c.loop-turns.invariant.2) (place_below (omega arith) p.5) c.ask_one-tail.ensures.1))
+pub loop-turn-preserved : goal.loop-turn-preserved
+loop-turn-preserved c = let at = (goal.at.loop-turn-preserved c).After-ask_one in (c.in-Some.ensures, chased at, inr (falls at))

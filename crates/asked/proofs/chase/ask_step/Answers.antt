@@ -1,7 +1,6 @@
 -- `asked::chase::ask_step` meets its contract: an axis that takes triples goes by the threads, a named self stays at its name, any
 -- other self at a vocabulary term.
 use mathlib.Core.Path.{sym}
-use Rattle.fewest.proofs.ByTriples.{self_axis}
 use Rattle.fewest.proofs.Resting.{nameless}
 use Rattle.asked.specs.Seek.{at_name}
 use Rattle.asked.specs.Chase.{as_step}
@@ -9,16 +8,16 @@ use Rattle.asked.proofs.Serving.{kept_none}
 use Rattle.asked.proofs.ByMoves.{name_looked, name_passed}
 use Rattle.asked.proofs.chase.ask_step.Goals as goal
 
-pub returns-then-term-t : goal.returns-then-term-t
-returns-then-term-t c =
-    let p = c.requires in
-    let (look, kept) = c.rest_on.ensures in
-    (λ g. rw (self_axis _ c.if-step-ne0.false, c.in-Term.is) (name_looked (look _ g _ _ p.6 p.10 at_name)), kept)
+pub returns-then-name-t : goal.returns-then-name-t
+returns-then-name-t c =
+    let at = c.requires.0 in
+    let (look, kept) = rw c.in-Term.is at c.rest_on.ensures in
+    (λ g. rw (c.in_default.is, c.in-Term.is) (name_looked (look _ g _ _ at.small at.marked at_name)), kept)
 
-pub returns-else-term-t : goal.returns-else-term-t
-returns-else-term-t c = (λ g. rw (self_axis _ c.if-step-ne0.false, c.in-Term.is) (name_passed (λ e. c.if-term-t.false (sym e))), kept_none _)
+pub returns-else-name-t : goal.returns-else-name-t
+returns-else-name-t c = (λ g. rw (c.in_default.is, c.in-Term.is) (name_passed (λ e. c.if-name-t.false (sym e))), kept_none _)
 
-pub returns : goal.returns
-returns c =
+pub returns-in_default-label : goal.returns-in_default-label
+returns-in_default-label c =
     let (look, kept) = c.stay.ensures in
-    (λ g. rw (self_axis _ c.if-step-ne0.false) (look _ g _ c.requires.9 (nameless c.args.step.label c.in_default.not-Term) as_step), kept)
+    (λ g. rw c.in_default.is (look _ g _ c.requires.0.threads (nameless c.args.step.label c.in_default-label.not-Term) as_step), kept)

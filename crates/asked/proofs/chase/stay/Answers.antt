@@ -5,9 +5,11 @@ use Rattle.asked.proofs.chase.stay.Goals as goal
 
 pub returns-then-word : goal.returns-then-word
 returns-then-word c =
-    let p = c.requires in
+    let (_, _, small, _, marked) = c.requires in
     let (look, kept) = c.rest_on.ensures in
-    (word_looked p.5 p.7 c.word.ensures c.if-word.true look, kept)
+    (word_looked small marked c.word.ensures c.if-word.true look, kept)
 
 pub returns-else-word : goal.returns-else-word
-returns-else-word c = let p = c.requires in (word_passed p.5 p.7 c.word.ensures c.if-word.false, kept_none _)
+returns-else-word c =
+    let (_, _, small, _, marked) = c.requires in
+    (word_passed small marked c.word.ensures c.if-word.false, kept_none _)

@@ -1,39 +1,31 @@
+use mathlib.Core.Path.{◌∙◌}
 use native.Mathlib.Omega.{arith}
 use Rattle.asked.specs.Count.{part}
-use Rattle.asked.proofs.Sums.{ones_then, ones_to, ones_most, ones_all}
+use Rattle.asked.proofs.Sums.{sum_parts, bits_front, bits_back, sum_few}
 use Rattle.asked.proofs.count.count.Goals as goal
 
-pub count_part-ones-requires : goal.count_part-ones-requires
+pub loop-ones-init : goal.loop-ones-init
 unfolding part
-count_part-ones-requires c = (c.requires, omega arith, omega arith, omega arith)
+loop-ones-init c = rw (c.into_iter-ones-iterator.ensures.into_iter_gives, c.chunks-ones-items.ensures.rest) (c.chunks-ones-items.ensures.size, c.requires, omega arith)
+
+pub count_part-requires : goal.count_part-requires
+count_part-requires c =
+    let (_, (cut, long, _)) = c.in-Some.ensures.steps in
+    (bits_front c.in-Some.ones.now c.next.new.self.rest.now (rw cut at c.loop-ones.invariant.1), omega (arith, long))
 
 pub overflow_add-n : goal.overflow_add-n
-unfolding part
 overflow_add-n c =
-    let at = c.loop-i in
-    let all = ones_then c.args.table.now at.invariant.1 c.count_part-ones.ensures (omega arith) in
-    omega (arith, ones_most c.args.table.now c.requires all, c.wide-n.ensures)
+    let (_, (cut, long, _)) = c.in-Some.ensures.steps in
+    let parts = rw (← cut) at (sum_parts c.in-Some.ones.now c.next.new.self.rest.now) in
+    omega (arith, parts, sum_few c.args.table.now c.requires)
 
-pub loop-i-preserved : goal.loop-i-preserved
-unfolding part
-loop-i-preserved c =
-    let at = c.loop-i in
-    let all = ones_then c.args.table.now at.invariant.1 c.count_part-ones.ensures (omega arith) in
-    (omega arith, rw c.wide-n.ensures.0 (ones_to c.args.table.now (omega arith) all))
-
-pub count_part-rest-requires : goal.count_part-rest-requires
-unfolding part
-count_part-rest-requires c = (c.requires, omega arith, omega arith, omega arith)
-
-pub overflow_add-result : goal.overflow_add-result
-unfolding part
-overflow_add-result c =
-    let at = c.loop-i in
-    let all = ones_then c.args.table.now at.invariant.1 c.count_part-rest.ensures (omega arith) in
-    omega (arith, ones_most c.args.table.now c.requires all, c.wide.ensures)
+pub loop-ones-preserved : goal.loop-ones-preserved
+loop-ones-preserved c =
+    let (size, (cut, long, _)) = c.in-Some.ensures.steps in
+    let parts = rw (← cut) at (sum_parts c.in-Some.ones.now c.next.new.self.rest.now) in
+    (size ∙ c.loop-ones.invariant.0, bits_back c.in-Some.ones.now c.next.new.self.rest.now (rw cut at c.loop-ones.invariant.1), omega arith)
 
 pub returns : goal.returns
-unfolding part
 returns c =
-    let at = c.loop-i in
-    ones_all c.args.table.now (rw c.wide.ensures.0 (ones_then c.args.table.now at.invariant.1 c.count_part-rest.ensures (omega arith)))
+    let (_, (empty, _)) = c.in-None.ensures.steps in
+    omega (arith, sum_few c.loop-ones.ones-iterator.rest.now c.loop-ones.invariant.1)

@@ -1,11 +1,11 @@
 -- `asked::count::count` meets its contract: the parts passed are counted, then the rest behind them.
--- The measure is how many parts are left.
-use Prim.Native.Nat.{◌≤◌, ◌-◌, ◌*◌}
-use Rattle.asked.specs.Count.{part, Ones}
+use Prim.Native.Nat.{◌+◌}
+use mathlib.Core.Path.{◌≡◌}
+use Rattle.fewest.specs.Sweep.{sum}
+use Rattle.asked.specs.Count.{part}
+use Rattle.asked.specs.Seek.{Bits}
 use Rattle.asked.proofs.count.count.Given as goal
 
-abbrev pub invariant-loop-i : goal.invariant-loop-i
-invariant-loop-i l = (l.i ≤ l.parts) × Ones l.table 0 (l.i * part) l.n
-
-abbrev pub decreases-loop-i : goal.decreases-loop-i
-decreases-loop-i l = l.parts - l.i
+abbrev pub invariant-loop-ones : goal.invariant-loop-ones
+invariant-loop-ones l =
+    (l.ones-iterator.size ≡ part) × Bits l.ones-iterator.rest.now × (l.n + sum l.ones-iterator.rest.now ≡ sum l.table)

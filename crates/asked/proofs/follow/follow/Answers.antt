@@ -1,31 +1,24 @@
-use Prim.Native.Nat.{◌<◌}
+use mathlib.Core.Path.{sym}
 use native.Mathlib.Omega.{arith}
-use lib.ListN.{get_or}
-use Rattle.meaning.specs.Limits.{records}
 use Rattle.asked.proofs.Climb.{climb_home, climb_held, climb_first, climb_up}
 use Rattle.asked.proofs.follow.follow.Goals as goal
-use Rattle.asked.proofs.follow.follow.Goals.{Else-stands-eq-AS_WHOLE}
 
--- the parent's record is above, and one of the records
-higher : (c : Else-stands-eq-AS_WHOLE) → let at = c.loop-r.at in let parent = get_or c.args.up.now at 0 in (at < parent) × (parent < records)
-higher c = c.requires.0.higher _ c.loop-r.invariant.inside c.if-stands-eq-AS_WHOLE.false
+pub returns-in-Whole : goal.returns-in-Whole
+returns-in-Whole c = climb_home c.loop-set.invariant (sym c.in-Whole.ensures)
 
-pub bounds-role-at : goal.bounds-role-at
-unfolding records
-bounds-role-at c = c.loop-r.invariant.inside
+pub returns-in-Test : goal.returns-in-Test
+returns-in-Test c = climb_held c.loop-set.invariant (sym c.in-Test.ensures)
 
-pub returns-then-stands-eq-AS_WHOLE : goal.returns-then-stands-eq-AS_WHOLE
-returns-then-stands-eq-AS_WHOLE c = climb_home c.loop-r.invariant c.if-stands-eq-AS_WHOLE.true
+pub returns-in-First : goal.returns-in-First
+returns-in-First c =
+    let climb = c.loop-set.invariant in
+    let higher = c.args.ahead.now.climbs.higher _ climb.inside (λ e. omega arith) in
+    let is = rw c.above-above.ensures at c.only.ensures in
+    rw is (climb_first climb (omega arith) (rw is at c.only.type_inv) (sym c.in-First.ensures))
 
-pub returns-then-stands-eq-AS_TEST : goal.returns-then-stands-eq-AS_TEST
-returns-then-stands-eq-AS_TEST c = climb_held c.loop-r.invariant c.if-stands-eq-AS_TEST.true
-
-pub returns-then-stands-eq-AS_FIRST : goal.returns-then-stands-eq-AS_FIRST
-returns-then-stands-eq-AS_FIRST c =
-    let (is, few) = c.only-set.ensures in
-    rw is (climb_first c.loop-r.invariant (omega (arith, higher (goal.at.returns-then-stands-eq-AS_FIRST c).Else-stands-eq-AS_WHOLE)) (rw is at few) c.if-stands-eq-AS_FIRST.true)
-
-pub loop-r-preserved : goal.loop-r-preserved
-loop-r-preserved c =
-    let (is, few) = c.only-set.ensures in
-    rw is (climb_up c.loop-r.invariant (omega (arith, higher (goal.at.loop-r-preserved c).Else-stands-eq-AS_WHOLE)) (rw is at few) c.requires.0 c.if-stands-eq-AS_WHOLE.false c.if-stands-eq-AS_TEST.false c.if-stands-eq-AS_FIRST.false)
+pub loop-set-preserved : goal.loop-set-preserved
+loop-set-preserved c =
+    let climb = c.loop-set.invariant in
+    let higher = c.args.ahead.now.climbs.higher _ climb.inside (λ e. omega arith) in
+    let is = rw c.above-above.ensures at c.only-set.ensures in
+    rw (is, c.above-above.ensures) (climb_up climb (omega arith) (rw is at c.only-set.type_inv) c.args.ahead.now.climbs (sym c.in-Round.ensures))

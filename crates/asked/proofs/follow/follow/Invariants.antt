@@ -4,8 +4,8 @@ use Rattle.meaning.specs.Limits.{records}
 use Rattle.asked.proofs.Climb.{Climbed}
 use Rattle.asked.proofs.follow.follow.Given as goal
 
-abbrev pub invariant-loop-r : goal.invariant-loop-r
-invariant-loop-r l = Climbed l.up l.role l.r l.at l.set
+abbrev pub invariant-loop-set : goal.invariant-loop-set
+invariant-loop-set l = Climbed l.ahead.links.now.up l.ahead.links.now.role l.r l.at l.set
 
-abbrev pub decreases-loop-r : goal.decreases-loop-r
-decreases-loop-r l = records - l.at
+abbrev pub decreases-loop-set : goal.decreases-loop-set
+decreases-loop-set l = records - l.at

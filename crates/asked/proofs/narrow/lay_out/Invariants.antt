@@ -1,13 +1,9 @@
 -- `asked::narrow::lay_out` meets its contract: the bytes passed stand in the row, and the words, which are before it, are as they were.
--- The measure is what is left of the terms.
-use Prim.Native.Nat.{◌+◌, ◌*◌, ◌-◌, ◌≤◌}
+use Prim.Native.Nat.{◌+◌, ◌*◌}
 use Rattle.meaning.specs.Limits.{terms}
 use Rattle.asked.specs.Words.{waits_at}
 use Rattle.asked.specs.Narrow.{Written, byte}
 use Rattle.asked.proofs.narrow.lay_out.Given as goal
 
 abbrev pub invariant-loop-t : goal.invariant-loop-t
-invariant-loop-t l = (l.t ≤ terms) × Written (waits_at + l.p * terms) l.t (byte l.initial.asked l.p) l.initial.asked l.asked
-
-abbrev pub decreases-loop-t : goal.decreases-loop-t
-decreases-loop-t l = terms - l.t
+invariant-loop-t l = Written (waits_at + l.p * terms) l.t (byte l.initial.asked l.p) l.initial.asked l.asked

@@ -1,12 +1,7 @@
 -- `asked::narrow::lay_out_all` meets its contract: the rows of the bytes passed are laid out, and the words are as they were.
--- The measure is what is left of a word's bytes.
-use Prim.Native.Nat.{◌-◌, ◌≤◌}
-use Rattle.asked.specs.Words.{size, waits_at}
+use Rattle.asked.specs.Words.{waits_at}
 use Rattle.asked.specs.Narrow.{RowsWritten, byte}
 use Rattle.asked.proofs.narrow.lay_out_all.Given as goal
 
 abbrev pub invariant-loop-p : goal.invariant-loop-p
-invariant-loop-p l = (l.p ≤ size) × RowsWritten waits_at l.p (byte l.initial.asked) l.initial.asked l.asked
-
-abbrev pub decreases-loop-p : goal.decreases-loop-p
-decreases-loop-p l = size - l.p
+invariant-loop-p l = RowsWritten waits_at l.p (byte l.initial.asked) l.initial.asked l.asked

@@ -3,17 +3,12 @@ use mathlib.Core.Path.{refl, ap}
 use native.Mathlib.Omega.{arith}
 use Rattle.meaning.specs.Limits.{terms, triples, records}
 use Rattle.asked.specs.Words.{eight, bit}
-use Rattle.asked.specs.Seek.{Whole}
 use Rattle.asked.proofs.Narrowing.{row_written}
 use Rattle.asked.proofs.narrow.narrow_rows.Goals as goal
-
-pub narrow_row-requires : goal.narrow_row-requires
-unfolding Whole
-narrow_row-requires c = (omega arith, omega arith)
 
 pub loop-r-preserved : goal.loop-r-preserved
 unfolding terms triples records
 loop-r-preserved c =
     let at = c.loop-r in
-    let w = at.invariant.1 in
-    (omega arith, row_written w c.narrow_row.ensures (omega arith) refl (λ t h. ap (λ x. bit x (at.r % eight)) (w.above _ (omega arith))))
+    let w = at.invariant in
+    row_written w c.narrow_row.ensures (omega arith) refl (λ t h. ap (λ x. bit x (at.r % eight)) (w.above _ (omega arith)))

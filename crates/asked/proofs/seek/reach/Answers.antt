@@ -4,6 +4,6 @@ use Rattle.asked.proofs.seek.reach.Goals as goal
 
 pub returns : goal.returns
 returns c =
-    let p = c.requires in
+    let (bits, small) = c.requires in
     let marked = c.mark_on.ensures in
-    (λ up role r onward. reached onward p.3 marked p.1 c.arrive.ensures, marked.kept)
+    (λ up role r onward. reached onward small marked bits c.arrive.ensures, marked.kept)

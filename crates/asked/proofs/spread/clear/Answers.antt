@@ -1,6 +1,7 @@
--- `asked::spread::clear` meets its contract: every row is filled with 0.
-use Rattle.asked.proofs.Beginning.{all_cleared}
+-- `asked::spread::clear` meets its contract.
+use Rattle.meaning.specs.Limits.{terms, records}
 use Rattle.asked.proofs.spread.clear.Goals as goal
 
 pub returns : goal.returns
-returns c = all_cleared c.requires c.clear_rows.ensures
+unfolding terms records
+returns c = rw c.told-asked at (c.fill.ensures.after (λ y e. e))

@@ -8,8 +8,8 @@ use Rattle.asked.proofs.spread.free.Goals as goal
 
 pub clear_rows-requires : goal.clear_rows-requires
 unfolding records
-clear_rows-requires c = (c.requires, omega arith)
+clear_rows-requires c = omega arith
 
 pub returns : goal.returns
-unfolding terms triples records
+unfolding terms triples
 returns c = let cleared = c.clear_rows.ensures in (no_marks (marks_at / terms) cleared (omega arith), threads_left (marks_at / terms) cleared (omega arith))

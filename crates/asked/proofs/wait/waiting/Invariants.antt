@@ -1,11 +1,11 @@
 -- `asked::wait::waiting` meets its contract: none that was passed waits.
--- The measure is what is left of the questions.
-use Prim.Native.Nat.{◌-◌, ◌≤◌}
+use Prim.Native.Nat.{◌+◌, ◌*◌}
+use Rattle.meaning.specs.Limits.{terms}
 use Rattle.asked.specs.Serve.{NoneWaits}
 use Rattle.asked.proofs.wait.waiting.Given as goal
 
-abbrev pub invariant-loop-i : goal.invariant-loop-i
-invariant-loop-i l = (l.i ≤ l.end) × NoneWaits l.asked l.i
+abbrev pub invariant-loop-r : goal.invariant-loop-r
+invariant-loop-r l = NoneWaits l.asked (l.r * terms)
 
-abbrev pub decreases-loop-i : goal.decreases-loop-i
-decreases-loop-i l = l.end - l.i
+abbrev pub invariant-loop-t : goal.invariant-loop-t
+invariant-loop-t l = NoneWaits l.asked (l.r * terms + l.t)

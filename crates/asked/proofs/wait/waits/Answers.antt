@@ -1,22 +1,15 @@
+use Prim.Native.Nat.{◌*◌, ◌-◌}
 use native.Mathlib.Omega.{arith}
 use borrow.Author.Tests.{ltb-false}
-use Rattle.meaning.specs.Limits.{terms, triples, records}
-use Rattle.asked.specs.Seek.{Whole}
+use Rattle.meaning.specs.Limits.{terms, triples}
+use Rattle.asked.specs.Words.{size, waits_at}
+use Rattle.asked.proofs.Splicing.{length-part, part_at}
 use Rattle.asked.proofs.Waiting.{none_waits}
 use Rattle.asked.proofs.wait.waits.Goals as goal
 
-pub loop-i-init : goal.loop-i-init
-unfolding terms triples
-loop-i-init c = (omega arith, λ j h from. absurd (omega arith))
-
-pub bounds-asked-i : goal.bounds-asked-i
-unfolding Whole records terms
-bounds-asked-i c = omega arith
-
 pub returns : goal.returns
 unfolding terms triples
-returns c =
-    λ none. none_waits c.args.asked.now (λ j from h.
-    let k = c.loop-i.invariant.1 j (omega arith) from in
-    let few = ltb-false 0 c.loop-i.most none in
-    omega arith)
+returns c none = none_waits c.args.asked.now (λ j from h.
+    let long = length-part waits_at (size * terms) c.args.asked.now (omega arith) in
+    let seen = c.loop-byte.invariant (j - waits_at) (omega arith) in
+    omega (arith, part_at waits_at (size * terms) c.args.asked.now j from h, ltb-false 0 c.loop-byte.most none))

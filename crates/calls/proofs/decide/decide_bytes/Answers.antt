@@ -1,4 +1,7 @@
 -- `calls::decide::decide_bytes` meets its contract: the lengths, then the admission, then the answer decide.
+use mathlib.Core.Path.{◌≡◌, refl}
+use borrow.Author.Rules.{rules}
+use Rattle.std.specs.Prelude.{Err}
 use Rattle.meaning.specs.Limits.{terms, records}
 use Rattle.fewest.specs.Tells.{Tells}
 use Rattle.fewest.proofs.Tells.{told, told_not}
@@ -20,16 +23,19 @@ fits c = let args = c.args in told (fitting as_bytes args.asked.now args.numbers
 pub returns-then-not-fit : goal.returns-then-not-fit
 returns-then-not-fit c = decided_short as_bytes (told_not (lengths (goal.at.returns-then-not-fit c).After-fit) c.if-not-fit.true)
 
+pub returns-in_err-query : goal.returns-in_err-query
+returns-in_err-query c =
+    let gone : c.from_residual.result ≡ Err c.in_err-query.field-0.0 = search rules in
+    rw gone (decided_turned as_bytes (fits (goal.at.returns-in_err-query c).Else-not-fit) (c.in_err-query.ensures.refused _ refl))
+
+pub unwrap-requires-2 : goal.unwrap-requires-2
+unfolding terms records
+unwrap-requires-2 c = c.as_mut_array-2.ensures.variant.1 (fits (goal.at.unwrap-requires-2 c).Else-not-fit).0.numbers_fit
+
 pub answer-requires : goal.answer-requires
-answer-requires c =
-    let (given, sound) = c.admit-admission.ensures.ready _ c.in-Ready.is in
-    let lent = fits (goal.at.answer-requires c).Else-not-fit in
-    (given, rw sound.from sound.start_fits, rw sound.to sound.end_fits, lent.0, lent.1)
+answer-requires c = (fits (goal.at.answer-requires c).Else-not-fit).1
 
-pub returns-in-Ready : goal.returns-in-Ready
-returns-in-Ready c =
-    let (given, sound) = c.admit-admission.ensures.ready _ c.in-Ready.is in
-    decided_query as_bytes _ sound c.answer.ensures
-
-pub returns-in-Refused : goal.returns-in-Refused
-returns-in-Refused c = decided_turned as_bytes (fits (goal.at.returns-in-Refused c).Else-not-fit) (c.admit-admission.ensures.refused _ c.in-Refused.is)
+pub returns : goal.returns
+returns c =
+    decided_query as_bytes (c.in_ok-query.ensures.ready _ refl)
+    (c.answer.ensures c.args.asked.now c.args.numbers.now (fits (goal.at.returns c).Else-not-fit).0)

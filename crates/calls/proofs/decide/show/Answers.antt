@@ -1,50 +1,52 @@
 -- `calls::decide::show` meets its contract: the path is written by the threads where the room holds it.
-use Prim.Native.Nat.{◌*◌}
 use mathlib.Core.Path.{refl}
+use mathlib.Core.Logic.{inl, inr}
 use native.Mathlib.Omega.{arith}
 use Rattle.meaning.specs.Limits.{none}
-use Rattle.fewest.specs.Table.{Full}
-use Rattle.calls.specs.Promise.{room_steps}
-use Rattle.calls.proofs.Admits.{given_some, given_ready}
-use Rattle.calls.proofs.Deciding.{numbered_walkable}
+use Rattle.calls.proofs.Admits.{read_some, read_few}
+use Rattle.calls.proofs.Tasks.{task_given, task_numbered}
+use Rattle.calls.proofs.Deciding.{numbered_walkable, roomy_less}
 use Rattle.calls.proofs.decide.show.Goals as goal
 
-pub overflow_sub-records : goal.overflow_sub-records
-overflow_sub-records c = omega (arith, given_some c.requires.0)
+pub overflow_sub-query : goal.overflow_sub-query
+overflow_sub-query g c = omega (arith, read_some c.args.query.now.read)
 
 pub number-steps-requires : goal.number-steps-requires
-unfolding Full
-number-steps-requires c =
-    let pre = c.requires in
-    (pre.3.numbers_fit, omega (arith, given_some pre.0, (given_ready pre.0).few), pre.2)
+number-steps-requires g c =
+    let query = c.args.query.now in
+    (omega (arith, read_some query.read, read_few query.read), query.start_fits)
 
-pub returns-then-steps-gt-ROOM_STEPS : goal.returns-then-steps-gt-ROOM_STEPS
-unfolding none room_steps
-returns-then-steps-gt-ROOM_STEPS c =
+pub write-requires : goal.write-requires
+unfolding none
+write-requires g c =
+    let query = c.args.query.now in
+    let (of, numbered, threads, holds) = c.requires in
     let (steps, bounded) = c.number-steps.ensures in
-    record { steps = steps; bounded = bounded; written = λ some few. absurd (omega arith); unrelated = λ e. refl; too_long = λ h. refl }
+    let walkable = numbered_walkable (task_given of) (task_numbered of c.args.numbers.now numbered) query.start_fits steps (omega arith) in
+    (threads, query.start_fits, roomy_less holds.roomy c.if-steps-most.true, rw (of.site, of.rule, of.goal) walkable)
 
-pub write_bytes-requires : goal.write_bytes-requires
-unfolding none room_steps Full
-write_bytes-requires c =
-    let pre = c.requires in
-    let (steps, bounded) = c.number-steps.ensures in (
-      given_ready pre.0,
-      pre.5,
-      pre.3.numbers_fit,
-      pre.2,
-      record { numbers = 3 * room_steps; long = pre.4; enough = omega arith },
-      numbered_walkable pre.0 pre.1 pre.2 steps (omega arith),
-    )
-
-pub returns : goal.returns
-unfolding none room_steps
-returns c =
+pub returns-then-steps-most : goal.returns-then-steps-most
+unfolding none
+returns-then-steps-most g c =
+    let of = c.requires.0 in
     let (steps, bounded) = c.number-steps.ensures in
     record {
-      steps = steps;
+      steps = rw of.count steps;
       bounded = bounded;
-      written = λ some few. c.write_bytes.ensures;
-      unrelated = λ e. absurd (omega arith);
-      too_long = λ h. absurd (omega arith);
+      written = λ some few. c.write.ensures;
+      unrelated = λ e. absurd (c.if-steps-ne-NONE.true e);
+      too_long = λ h. absurd (omega (arith, c.if-steps-most.true));
+    }
+
+pub returns-else-steps-ne-NONE : goal.returns-else-steps-ne-NONE
+unfolding none
+returns-else-steps-ne-NONE g c =
+    let of = c.requires.0 in
+    let (steps, bounded) = c.number-steps.ensures in
+    record {
+      steps = rw of.count steps;
+      bounded = bounded;
+      written = λ some few. absurd (elim c.else-steps-ne-NONE.either [ inl over ↦ omega arith | inr none ↦ omega arith ]);
+      unrelated = λ e. refl;
+      too_long = λ h. refl;
     }

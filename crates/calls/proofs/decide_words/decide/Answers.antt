@@ -1,8 +1,9 @@
 -- `calls::decide_words::decide` meets its contract: the lengths, then the admission, then the answer decide; a room of numbers has any
 -- length.
-use mathlib.Core.Path.{refl}
+use mathlib.Core.Path.{◌≡◌, refl}
+use borrow.Author.Rules.{rules}
+use Rattle.std.specs.Prelude.{Err}
 use Rattle.meaning.specs.Limits.{terms, records}
-use Rattle.fewest.specs.Table.{Full}
 use Rattle.fewest.specs.Tells.{Tells}
 use Rattle.fewest.proofs.Tells.{told, told_not}
 use Rattle.calls.specs.Promise.{as_words, Fits, RoomFits}
@@ -23,16 +24,13 @@ fits c = let args = c.args in told (fitting as_words args.asked.now args.numbers
 pub returns-then-not-fit : goal.returns-then-not-fit
 returns-then-not-fit c = decided_short as_words (told_not (lengths (goal.at.returns-then-not-fit c).After-fit) c.if-not-fit.true)
 
-pub answer_words-requires : goal.answer_words-requires
-unfolding Full terms records
-answer_words-requires c =
-    let (given, sound) = c.admit-admission.ensures.ready _ c.in-Ready.is in
-    (given, rw sound.from sound.start_fits, rw sound.to sound.end_fits, (fits (goal.at.answer_words-requires c).Else-not-fit).0, refl, refl)
+pub returns-in_err-query : goal.returns-in_err-query
+returns-in_err-query c =
+    let gone : c.from_residual.result ≡ Err c.in_err-query.field-0.0 = search rules in
+    rw gone (decided_turned as_words (fits (goal.at.returns-in_err-query c).Else-not-fit) (c.in_err-query.ensures.refused _ refl))
 
-pub returns-in-Ready : goal.returns-in-Ready
-returns-in-Ready c =
-    let (given, sound) = c.admit-admission.ensures.ready _ c.in-Ready.is in
-    decided_query as_words _ sound c.answer_words.ensures
-
-pub returns-in-Refused : goal.returns-in-Refused
-returns-in-Refused c = decided_turned as_words (fits (goal.at.returns-in-Refused c).Else-not-fit) (c.admit-admission.ensures.refused _ c.in-Refused.is)
+pub returns : goal.returns
+returns c =
+    rw c.copy_back.ensures
+    (decided_query as_words (c.in_ok-query.ensures.ready _ refl)
+    (c.answer-answer.ensures c.args.asked.now c.args.numbers.now (fits (goal.at.returns c).Else-not-fit).0))

@@ -1,13 +1,14 @@
 -- `calls::lists::ends_bytes` meets its contract: the lengths, then the admission, then the tables decide.
--- The reasoning is in `Listing`.
-use mathlib.Core.Path.{◌≡◌, ◌∙◌}
+use mathlib.Core.Path.{◌≡◌, refl}
 use lib.ListN.{length}
+use borrow.Author.Rules.{rules}
+use Rattle.std.specs.Prelude.{Err}
 use Rattle.meaning.specs.Limits.{terms, records}
 use Rattle.fewest.specs.Tells.{Tells}
 use Rattle.fewest.proofs.Tells.{told, told_not}
 use Rattle.calls.specs.Promise.{as_bytes, Fits}
 use Rattle.calls.proofs.Fitting.{fitting}
-use Rattle.calls.proofs.Listing.{may_list, ends_short, ends_turned, ends_listed}
+use Rattle.calls.proofs.Listing.{ends_short, ends_turned, ends_listed}
 use Rattle.calls.proofs.lists.ends_bytes.Goals as goal
 use Rattle.calls.proofs.lists.ends_bytes.Goals.{After-fit, Else-not-fit}
 
@@ -23,16 +24,18 @@ fits c = let args = c.args in told (fitting as_bytes args.asked.now args.numbers
 pub returns-then-not-fit : goal.returns-then-not-fit
 returns-then-not-fit c = ends_short as_bytes (told_not (lengths (goal.at.returns-then-not-fit c).After-fit) c.if-not-fit.true)
 
-pub list-requires : goal.list-requires
-list-requires c =
-    let lent = (fits (goal.at.list-requires c).Else-not-fit).0 in
-    may_list _ _ lent.asked_fits lent.numbers_fit (c.admit-admission.ensures.ready _ c.in-Ready.is)
+pub returns-in_err-query : goal.returns-in_err-query
+returns-in_err-query c =
+    let gone : c.from_residual.result ≡ Err c.in_err-query.field-0.0 = search rules in
+    rw gone (ends_turned as_bytes (fits (goal.at.returns-in_err-query c).Else-not-fit) (c.in_err-query.ensures.refused _ refl))
 
-pub returns-in-Ready : goal.returns-in-Ready
-returns-in-Ready c =
-    let lent = fits (goal.at.returns-in-Ready c).Else-not-fit in
-    let full = c.list.auto.numbers ∙ lent.0.numbers_fit in
-    ends_listed lent (c.admit-admission.ensures.ready _ c.in-Ready.is) c.list.ensures full (c.list.auto.third ∙ lent.1)
+pub unwrap-requires-2 : goal.unwrap-requires-2
+unfolding terms records
+unwrap-requires-2 c = c.as_mut_array-2.ensures.variant.1 (fits (goal.at.unwrap-requires-2 c).Else-not-fit).0.numbers_fit
 
-pub returns-in-Refused : goal.returns-in-Refused
-returns-in-Refused c = ends_turned (fits (goal.at.returns-in-Refused c).Else-not-fit) (c.admit-admission.ensures.refused _ c.in-Refused.is)
+pub unwrap-requires-3 : goal.unwrap-requires-3
+unfolding terms records
+unwrap-requires-3 c = c.as_mut_array-3.ensures.variant.1 (fits (goal.at.unwrap-requires-3 c).Else-not-fit).1
+
+pub returns : goal.returns
+returns c = ends_listed as_bytes (fits (goal.at.returns c).Else-not-fit) (c.in_ok-query.ensures.ready _ refl) c.list.ensures

@@ -1,30 +1,30 @@
 -- `calls::origins::list` meets its contract: the tables keep their lengths from call to call.
+use Rattle.meaning.specs.Limits.{terms, records}
 use native.Mathlib.Omega.{arith}
-use Rattle.fewest.specs.Table.{Full}
-use Rattle.asked.specs.Seek.{Whole}
-use Rattle.calls.proofs.Admits.{given_ready, given_some}
+use Rattle.calls.proofs.Admits.{read_some}
 use Rattle.calls.proofs.TermTables.{table_bits}
 use Rattle.calls.proofs.Starting.{told_table}
+use Rattle.calls.proofs.Tasks.{task_numbered}
 use Rattle.calls.proofs.origins.list.Goals as goal
 
-pub fill-requires : goal.fill-requires
-unfolding Whole
-fill-requires c =
-    let pre = c.requires in
-    (given_ready pre.0, pre.1, pre.2)
-
-pub overflow_sub-records : goal.overflow_sub-records
-overflow_sub-records c = omega (arith, given_some c.requires.0)
-
-pub tell-requires : goal.tell-requires
-unfolding Full
-tell-requires c =
-    let pre = c.requires in
-    (omega arith, omega (arith, given_some pre.0, (given_ready pre.0).few), omega arith)
-
-pub clear-requires : goal.clear-requires
-unfolding Whole
-clear-requires c = omega arith
+pub overflow_sub-task : goal.overflow_sub-task
+overflow_sub-task c = rw c.task-task.ensures.count (omega (arith, read_some c.args.query.now.read))
 
 pub count-requires : goal.count-requires
 count-requires c = table_bits (told_table c.tell.ensures)
+
+pub returns : goal.returns
+unfolding terms records
+returns c =
+    let of = c.task-task.ensures in
+    record {
+      links = c.task-task.result.ahead.links.now;
+      built = of.links;
+      listed = record {
+        settled = task_numbered of c.fill.new.numbers c.fill.ensures.0;
+        long = c.fill.array_long2;
+        told = rw of.count at c.tell.ensures;
+        count = c.count.ensures;
+        clear = c.clear.ensures;
+      };
+    }

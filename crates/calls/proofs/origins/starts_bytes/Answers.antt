@@ -1,10 +1,9 @@
 -- `calls::origins::starts_bytes` meets its contract: the lengths, then the admission, then the tables decide.
--- The reasoning is in `Starting`.
-use mathlib.Core.Path.{◌≡◌, ◌∙◌}
+use mathlib.Core.Path.{◌≡◌, refl}
 use lib.ListN.{length}
+use borrow.Author.Rules.{rules}
+use Rattle.std.specs.Prelude.{Err}
 use Rattle.meaning.specs.Limits.{terms, records}
-use Rattle.fewest.specs.Table.{Full}
-use Rattle.asked.specs.Seek.{Whole}
 use Rattle.fewest.specs.Tells.{Tells}
 use Rattle.fewest.proofs.Tells.{told, told_not}
 use Rattle.calls.specs.Promise.{as_bytes, Fits}
@@ -25,17 +24,18 @@ fits c = let args = c.args in told (fitting as_bytes args.asked.now args.numbers
 pub returns-then-not-fit : goal.returns-then-not-fit
 returns-then-not-fit c = starts_short as_bytes (told_not (lengths (goal.at.returns-then-not-fit c).After-fit) c.if-not-fit.true)
 
-pub list-requires : goal.list-requires
-unfolding Full Whole
-list-requires c =
-    let lent = fits (goal.at.list-requires c).Else-not-fit in
-    ((c.admit-admission.ensures.ready _ c.in-Ready.is).0, lent.0.numbers_fit, lent.0.asked_fits, lent.1)
+pub returns-in_err-query : goal.returns-in_err-query
+returns-in_err-query c =
+    let gone : c.from_residual.result ≡ Err c.in_err-query.field-0.0 = search rules in
+    rw gone (starts_turned as_bytes (fits (goal.at.returns-in_err-query c).Else-not-fit) (c.in_err-query.ensures.refused _ refl))
 
-pub returns-in-Ready : goal.returns-in-Ready
-returns-in-Ready c =
-    let lent = fits (goal.at.returns-in-Ready c).Else-not-fit in
-    let full = c.list.auto.numbers ∙ lent.0.numbers_fit in
-    starts_listed lent (c.admit-admission.ensures.ready _ c.in-Ready.is) c.list.ensures full
+pub unwrap-requires-2 : goal.unwrap-requires-2
+unfolding terms records
+unwrap-requires-2 c = c.as_mut_array-2.ensures.variant.1 (fits (goal.at.unwrap-requires-2 c).Else-not-fit).0.numbers_fit
 
-pub returns-in-Refused : goal.returns-in-Refused
-returns-in-Refused c = starts_turned (fits (goal.at.returns-in-Refused c).Else-not-fit) (c.admit-admission.ensures.refused _ c.in-Refused.is)
+pub unwrap-requires-3 : goal.unwrap-requires-3
+unfolding terms records
+unwrap-requires-3 c = c.as_mut_array-3.ensures.variant.1 (fits (goal.at.unwrap-requires-3 c).Else-not-fit).1
+
+pub returns : goal.returns
+returns c = starts_listed as_bytes (fits (goal.at.returns c).Else-not-fit) (c.in_ok-query.ensures.ready _ refl) c.list.ensures

@@ -14,8 +14,4 @@ returns-then-scratch-i c =
 pub returns : goal.returns
 returns c =
     let x = c.args in
-    let high = c.wide.ensures in
-    let low = c.wide-2.ensures in (
-      rw (low.0, high.0) (sym (cells_at x.scratch.now x.i (omega (arith, c.if-scratch-i.false)))),
-      omega (arith, high.1, low.1),
-    )
+    (omega (arith, cells_at x.scratch.now x.i (omega (arith, c.if-scratch-i.false))), omega arith)

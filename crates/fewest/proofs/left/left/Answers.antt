@@ -1,30 +1,25 @@
-use Rattle.meaning.specs.Limits.{records, none}
+use Rattle.std.proofs.Common.{sym}
+use Rattle.meaning.specs.Limits.{none}
 use Rattle.fewest.proofs.Walk.{walk_begins, walk_home, walk_held, walk_first, walk_up}
 use Rattle.fewest.proofs.left.left.Goals as goal
 
-pub loop-goal-init : goal.loop-goal-init
+pub loop-best-init : goal.loop-best-init
 unfolding none
-loop-goal-init c = walk_begins c.requires.2
+loop-best-init c = walk_begins c.requires.0
 
-pub bounds-role-at : goal.bounds-role-at
-unfolding records
-bounds-role-at c = c.loop-goal.invariant.inside
+pub returns-in-Whole : goal.returns-in-Whole
+returns-in-Whole c = rw (c.least.ensures, c.home.ensures) (walk_home c.loop-best.invariant (sym c.in-Whole.ensures))
 
-pub returns-then-stands-eq-AS_WHOLE : goal.returns-then-stands-eq-AS_WHOLE
-returns-then-stands-eq-AS_WHOLE c =
-    rw (c.least.ensures, c.home.ensures) (walk_home c.loop-goal.invariant c.if-stands-eq-AS_WHOLE.true)
+pub returns-in-Test : goal.returns-in-Test
+returns-in-Test c = walk_held c.loop-best.invariant (sym c.in-Test.ensures)
 
-pub returns-then-stands-eq-AS_TEST : goal.returns-then-stands-eq-AS_TEST
-returns-then-stands-eq-AS_TEST c = walk_held c.loop-goal.invariant c.if-stands-eq-AS_TEST.true
-
-pub returns-then-stands-eq-AS_FIRST : goal.returns-then-stands-eq-AS_FIRST
-returns-then-stands-eq-AS_FIRST c =
+pub returns-in-First : goal.returns-in-First
+returns-in-First c =
     let (read, top) = c.number.ensures in
-    rw (c.least-best.ensures, read)
-    (walk_first c.loop-goal.invariant c.if-stands-eq-AS_FIRST.true (rw read at top))
+    rw (c.least-in-First.ensures, read, c.above-above.ensures)
+    (walk_first c.loop-best.invariant (sym c.in-First.ensures) (rw (read, c.above-above.ensures) at top))
 
-pub loop-goal-preserved : goal.loop-goal-preserved
-loop-goal-preserved c =
-    rw (c.least-best.ensures, c.number.ensures.0)
-    (walk_up c.loop-goal.invariant c.requires.1
-    c.if-stands-eq-AS_WHOLE.false c.if-stands-eq-AS_TEST.false c.if-stands-eq-AS_FIRST.false)
+pub loop-best-preserved : goal.loop-best-preserved
+loop-best-preserved c =
+    rw (c.least-best.ensures, c.number-in-Round.ensures.0, c.above-above.ensures)
+    (walk_up c.loop-best.invariant c.args.ahead.now.climbs (sym c.in-Round.ensures))

@@ -6,8 +6,8 @@ use Rattle.fewest.specs.Work.{goal_of}
 use Rattle.fewest.proofs.Walk.{Walked}
 use Rattle.fewest.proofs.left.left.Given as goal
 
-abbrev pub invariant-loop-goal : goal.invariant-loop-goal
-invariant-loop-goal l = Walked l.up l.role (goal_of l.goal) (pairs l.numbers) l.r l.u l.at l.best
+abbrev pub invariant-loop-best : goal.invariant-loop-best
+invariant-loop-best l = Walked l.ahead.links.now.up l.ahead.links.now.role (goal_of l.ahead.goal) (pairs l.numbers) l.r l.u l.at l.best
 
-abbrev pub decreases-loop-goal : goal.decreases-loop-goal
-decreases-loop-goal l = records - l.at
+abbrev pub decreases-loop-best : goal.decreases-loop-best
+decreases-loop-best l = records - l.at

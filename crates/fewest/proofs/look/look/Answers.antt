@@ -11,29 +11,27 @@ use Rattle.fewest.proofs.look.look.Goals.{After-move_at-m}
 -- the terms of the triple are terms
 in-terms : (c : After-move_at-m) → Terms c.move_at-m.result
 in-terms c =
-    let pre = c.requires in
-    moved_terms c.move_at-m.ensures pre.0.1 pre.0.2 pre.5
+    let (here, known, tests, axial) = c.requires in
+    moved_terms c.move_at-m.ensures c.args.site.now.accepted here axial
 
 pub number-requires : goal.number-requires
 number-requires c =
-    let pre = c.requires in
-    (pre.1, pre.3, (in-terms c).from)
+    (c.requires.1, (in-terms c).from)
 
 pub returns-then-number-le1 : goal.returns-then-number-le1
 returns-then-number-le1 c =
     let args = c.args in
-    λ n a good h so e l. look_low args.label (pairs args.numbers.now) (moved_taken c.move_at-m.ensures good h a so e l)
+    λ n a good h so. look_low args.label (pairs args.numbers.now) (moved_taken c.move_at-m.ensures good h a so)
     (omega arith)
 
 pub allows-requires : goal.allows-requires
 allows-requires c =
-    let pre = c.requires in
-    (pre.1, pre.3, (in-terms (goal.at.allows-requires c).After-move_at-m).middle, pre.4)
+    let (here, known, tests, axial) = c.requires in
+    (known, (in-terms (goal.at.allows-requires c).After-move_at-m).middle, tests)
 
 pub left-rest-requires : goal.left-rest-requires
 left-rest-requires c =
-    let pre = c.requires in
-    (pre.1, pre.2, pre.3, (in-terms (goal.at.left-rest-requires c).After-move_at-m).to)
+    (c.requires.1, (in-terms (goal.at.left-rest-requires c).After-move_at-m).to)
 
 pub overflow_add-rest : goal.overflow_add-rest
 unfolding none
@@ -41,18 +39,17 @@ overflow_add-rest c = omega arith
 
 pub lower-requires : goal.lower-requires
 lower-requires c =
-    let pre = c.requires in
-    (pre.1, pre.3, (in-terms (goal.at.lower-requires c).After-move_at-m).from)
+    (c.requires.1, (in-terms (goal.at.lower-requires c).After-move_at-m).from)
 
 pub returns-then-allows : goal.returns-then-allows
 returns-then-allows c =
     let args = c.args in
-    λ n a good h so e l. look_passes args.label (pairs args.numbers.now)
-    (moved_taken c.move_at-m.ensures good h a so e l)
+    λ n a good h so. look_passes args.label (pairs args.numbers.now)
+    (moved_taken c.move_at-m.ensures good h a so)
     c.allows.ensures c.if-allows.true (in-terms (goal.at.returns-then-allows c).After-move_at-m).from c.left-rest.ensures c.lower.ensures
 
 pub returns : goal.returns
 returns c =
     let args = c.args in
-    λ n a good h so e l. look_barred args.label (pairs args.numbers.now) (moved_taken c.move_at-m.ensures good h a so e l)
+    λ n a good h so. look_barred args.label (pairs args.numbers.now) (moved_taken c.move_at-m.ensures good h a so)
     c.allows.ensures c.if-allows.false

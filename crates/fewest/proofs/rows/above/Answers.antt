@@ -21,7 +21,7 @@ unfolding records terms
 overflow_add-at c = omega arith
 
 pub bounds-numbers-at : goal.bounds-numbers-at
-unfolding Full records terms
+unfolding records terms
 bounds-numbers-at c = omega arith
 
 pub overflow_add-from : goal.overflow_add-from
@@ -29,12 +29,8 @@ unfolding records terms
 overflow_add-from c = omega arith
 
 pub bounds-numbers-from : goal.bounds-numbers-from
-unfolding Full records terms
+unfolding records terms
 bounds-numbers-from c = omega arith
-
-pub loop-i-smaller : goal.loop-i-smaller
-unfolding terms
-loop-i-smaller c = omega arith
 
 pub loop-i-preserved : goal.loop-i-preserved
 unfolding terms
@@ -44,17 +40,15 @@ loop-i-preserved c =
     let b = c.args.b in
     let a = c.args.a in
     let (most, more) = c.greater-most.ensures in
-    let by = c.excess.ensures in (
-      omega arith,
-      below_more (λ j. get_or N (b * (terms + terms) + j) 0 ≤ get_or N (a * (terms + terms) + j) 0 + c.greater-most.result) loop.i
-          (λ j h. let l = loop.invariant.1 j h in omega arith) (omega arith),
-    )
+    let by = c.excess.ensures in
+    below_more (λ j. get_or N (b * (terms + terms) + j) 0 ≤ get_or N (a * (terms + terms) + j) 0 + c.greater-most.result) loop.i
+    (λ j h. let l = loop.invariant j h in omega arith) (omega arith)
 
 pub returns : goal.returns
-unfolding terms
+unfolding Full records terms
 returns c =
     λ none.
-    let (full, row, other) = c.requires in
+    let (row, other) = c.requires in
     let loop = c.loop-i in
     let few = ltb-false 0 loop.most none in
-    row_below c.args.numbers.now c.args.b c.args.a full row other (λ i h. let l = loop.invariant.1 i (omega arith) in omega arith)
+    row_below c.args.numbers.now c.args.b c.args.a (omega arith) row other (λ i h. let l = loop.invariant i (omega arith) in omega arith)

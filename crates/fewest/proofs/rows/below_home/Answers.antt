@@ -1,12 +1,7 @@
 -- `fewest::rows::below_home` meets its contract: at other terms than the end nothing is left that is a number.
-use Prim.Native.Nat.{ℕ, ◌<◌, ◌≤◌}
-use mathlib.Core.List.{List}
 use native.Mathlib.Omega.{arith}
-use lib.ListN.{get_or}
 use borrow.Author.Tests.{eqb-true}
-use Rattle.meaning.specs.Limits.{terms, none}
-use Rattle.fewest.specs.Pairs.{pairs}
-use Rattle.fewest.specs.Offer.{view}
+use Rattle.meaning.specs.Limits.{terms}
 use Rattle.fewest.proofs.Entries.{view_top}
 use Rattle.fewest.proofs.Quieting.{home_below}
 use Rattle.fewest.proofs.rows.below_home.Goals as goal
@@ -15,14 +10,14 @@ pub returns-then-end-ge-TERMS : goal.returns-then-end-ge-TERMS
 unfolding terms
 returns-then-end-ge-TERMS c =
     λ yes.
-    rw c.in-End.is (home_below _ _ (view_top c.args.numbers.now (λ i. (c.type_inv.numbers i).fits) _) (λ e. absurd (omega arith)))
+    rw c.in-End.is (home_below _ _ (view_top c.args.numbers.now c.fits-numbers _) (λ e. absurd (omega arith)))
 
 pub number-requires : goal.number-requires
 unfolding terms
-number-requires c = (c.requires.0, c.requires.1, omega arith)
+number-requires c = (c.requires, omega arith)
 
 pub returns-else-end-ge-TERMS : goal.returns-else-end-ge-TERMS
 returns-else-end-ge-TERMS c =
     λ yes.
     let here = eqb-true c.number.result 0 yes in
-    rw c.in-End.is (home_below _ _ (view_top c.args.numbers.now (λ i. (c.type_inv.numbers i).fits) _) (λ h. omega (arith, c.number.ensures.0)))
+    rw c.in-End.is (home_below _ _ (view_top c.args.numbers.now c.fits-numbers _) (λ h. omega (arith, c.number.ensures.0)))

@@ -6,8 +6,8 @@ use Rattle.fewest.specs.Work.{goal_of}
 use Rattle.fewest.proofs.Quieting.{Climbed}
 use Rattle.fewest.proofs.rows.bounds.Given as goal
 
-abbrev pub invariant-loop-goal : goal.invariant-loop-goal
-invariant-loop-goal l = Climbed l.up l.role (goal_of l.goal) (pairs l.numbers) l.b l.r l.at
+abbrev pub invariant-loop-at : goal.invariant-loop-at
+invariant-loop-at l = Climbed l.ahead.links.now.up l.ahead.links.now.role (goal_of l.ahead.goal) (pairs l.numbers) l.b l.r l.at
 
-abbrev pub decreases-loop-goal : goal.decreases-loop-goal
-decreases-loop-goal l = records - l.at
+abbrev pub decreases-loop-at : goal.decreases-loop-at
+decreases-loop-at l = records - l.at

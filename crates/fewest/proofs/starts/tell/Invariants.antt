@@ -1,12 +1,7 @@
--- `fewest::starts::tell` meets its contract. The loop's invariant: the bits below t are told, by the laws of Telling.
-use Prim.Native.Nat.{◌≤◌, ◌-◌}
-use Rattle.meaning.specs.Limits.{terms}
+-- `fewest::starts::tell` meets its contract. The loop's invariant: the bits below t are told.
 use Rattle.fewest.specs.Pairs.{pairs}
 use Rattle.fewest.specs.Told.{Told}
 use Rattle.fewest.proofs.starts.tell.Given as goal
 
 abbrev pub invariant-loop-t : goal.invariant-loop-t
-invariant-loop-t l = Told (pairs l.numbers) l.r l.t l.third × (l.t ≤ terms)
-
-abbrev pub decreases-loop-t : goal.decreases-loop-t
-decreases-loop-t l = terms - l.t
+invariant-loop-t l = Told (pairs l.numbers) l.r l.t l.third

@@ -1,10 +1,13 @@
+use Prim.Native.Nat.{◌+◌, ◌*◌}
+use mathlib.Core.Path.{◌≡◌}
 use native.Mathlib.Omega.{arith}
-use Rattle.meaning.specs.Limits.{none}
-use Rattle.fewest.specs.Table.{Full}
-use Rattle.fewest.proofs.Decoded.{pairs_filled}
+use lib.ListN.{length}
+use Rattle.meaning.specs.Limits.{terms, records, none}
+use Rattle.fewest.proofs.Decoded.{pairs_same}
 use Rattle.fewest.proofs.sweep.clear.Goals as goal
 
 pub returns : goal.returns
-unfolding Full none
+unfolding terms records none
 returns c =
-    pairs_filled c.args.numbers.now _ 255 c.loop-i.i c.requires (omega arith) c.loop-i.invariant.2
+    let long : length c.args.numbers.now ≡ records * terms + records * terms = omega arith in
+    rw (c.fill.ensures.after (λ y e. e), long) (pairs_same (records * terms) 255)

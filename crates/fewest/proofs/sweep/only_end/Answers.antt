@@ -1,16 +1,8 @@
--- `fewest::sweep::only_end` meets its contract, case by case of the role and the goal.
-use native.Mathlib.Omega.{arith}
-use Rattle.meaning.specs.Limits.{terms, records}
+-- `fewest::sweep::only_end` meets its contract: the record stands as the whole rule, and the goal is that term.
+use Rattle.std.proofs.Common.{sym}
+use Rattle.meaning.specs.Limits.{terms}
 use Rattle.fewest.proofs.sweep.only_end.Goals as goal
 
-pub bounds-role-r : goal.bounds-role-r
-unfolding records
-bounds-role-r c = omega arith
-
-pub returns-then-role-r-ne-AS_WHOLE : goal.returns-then-role-r-ne-AS_WHOLE
+pub returns-in-End-Whole : goal.returns-in-End-Whole
 unfolding terms
-returns-then-role-r-ne-AS_WHOLE c = λ h. absurd (omega arith)
-
-pub returns-in-Anywhere : goal.returns-in-Anywhere
-unfolding terms
-returns-in-Anywhere c = λ h. absurd (omega arith)
+returns-in-End-Whole c = (c.if-term-lt-TERMS.true, λ h. (sym c.in-End-Whole.ensures, rw c.in-End-Whole.is-0))

@@ -1,11 +1,8 @@
 -- `fewest::sweep::sweep_axis` meets its contract: each turn sees the moves of one triple.
--- The measure is what is left of the triples.
-use Prim.Native.Nat.{ℕ, ◌≤◌, ◌-◌}
 use mathlib.Core.Path.{◌≡◌}
-use mathlib.Core.Logic.{◌≢◌}
-use lib.ListN.{length}
 use Rattle.records.specs.Sites.{site_of}
-use Rattle.records.specs.Rules.{last_axis, axis_numbered}
+use Rattle.records.specs.declared.Axis.{Axis as CodeAxis}
+use Rattle.records.specs.Rules.{axis_of}
 use Rattle.fewest.specs.Pairs.{pairs}
 use Rattle.fewest.specs.Frame.{frame}
 use Rattle.fewest.specs.Offer.{Lowers}
@@ -16,10 +13,5 @@ use Rattle.fewest.proofs.sweep.sweep_axis.Given as goal
 
 abbrev pub invariant-loop-k : goal.invariant-loop-k
 invariant-loop-k l =
-    let F = frame (site_of l.site l.triples) l.up l.role (goal_of l.goal) in
-    (l.k ≤ l.triples) × (length l.numbers ≡ length l.initial.numbers) ×
-    ((a : ℕ) → l.parts ≡ parts_of a → a ≢ 0 → a ≤ last_axis →
-    Seen sum (Lowers F (work_of (axis_numbered a) l.label) l.r) (QuietBy F (axis_numbered a) l.label l.r) l.k (pairs l.initial.numbers) (pairs l.numbers) l.was l.changed)
-
-abbrev pub decreases-loop-k : goal.decreases-loop-k
-decreases-loop-k l = l.triples - l.k
+    let F = frame (site_of l.site.bytes.now l.site.triples) l.ahead.links.now.up l.ahead.links.now.role (goal_of l.ahead.goal) in
+    (a : CodeAxis) → l.parts ≡ parts_of a → Seen sum (Lowers F (work_of (axis_of a) l.label) l.r) (QuietBy F (axis_of a) l.label l.r) l.k (pairs l.initial.numbers) (pairs l.numbers) l.was l.changed

@@ -1,9 +1,4 @@
 -- `fewest::sweep::sweep_row` meets its contract: the row is nowhere above the other, or each turn sees one place of it.
--- The measure is what is left of the row.
-use Prim.Native.Nat.{◌≤◌, ◌-◌}
-use mathlib.Core.Path.{◌≡◌}
-use lib.ListN.{length}
-use Rattle.meaning.specs.Limits.{terms}
 use Rattle.fewest.specs.Pairs.{pairs}
 use Rattle.fewest.specs.Frame.{Frame}
 use Rattle.fewest.specs.Offer.{copying, Lowers}
@@ -14,8 +9,4 @@ use Rattle.fewest.proofs.sweep.sweep_row.Given as goal
 
 abbrev pub invariant-loop-t : goal.invariant-loop-t
 invariant-loop-t l =
-    (l.t ≤ terms) × (length l.numbers ≡ length l.initial.numbers) ×
-    ((F : Frame) → Seen sum (Lowers F (copying l.a) l.r) (QuietAt F (copying l.a) l.r) l.t (pairs l.initial.numbers) (pairs l.numbers) l.was l.changed)
-
-abbrev pub decreases-loop-t : goal.decreases-loop-t
-decreases-loop-t l = terms - l.t
+    (F : Frame) → Seen sum (Lowers F (copying l.a) l.r) (QuietAt F (copying l.a) l.r) l.t (pairs l.initial.numbers) (pairs l.numbers) l.was l.changed

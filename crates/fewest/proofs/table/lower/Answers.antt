@@ -1,16 +1,16 @@
 -- `fewest::table::lower` meets its contract, by the laws of Entries.
 use Rattle.fewest.specs.Pairs.{pairs}
 use Rattle.fewest.proofs.Entries.{lowered_yes, lowered_no}
-use Rattle.fewest.specs.Table.{Full}
+use Rattle.meaning.specs.Limits.{terms, records}
 use native.Mathlib.Omega.{arith}
 use Rattle.fewest.proofs.table.lower.Goals as goal
 
 pub get-requires : goal.get-requires
-unfolding Full
+unfolding terms records
 get-requires c = omega arith
 
 pub put-requires : goal.put-requires
-unfolding Full
+unfolding terms records
 put-requires c = (omega arith, omega arith)
 
 pub returns-then-v-get : goal.returns-then-v-get

@@ -1,14 +1,16 @@
-use Prim.Native.Nat.{ℕ, ◌+◌, ◌<◌}
-use mathlib.Core.Path.{◌≡◌}
-use mathlib.Core.List.{List}
+-- `fewest::threads::clear` meets its contract: the bytes are all those of cells that name nothing.
+use Prim.Native.Nat.{ℕ, ◌+◌}
 use native.Mathlib.Omega.{arith}
-use lib.ListN.{length, get_or}
+use lib.ListN.{replicate, length-replicate}
+use Rattle.std.proofs.lemmas.List.{get_or-replicate}
 use Rattle.fewest.specs.Threads.{Blank}
 use Rattle.fewest.proofs.Decoded.{cells_at}
 use Rattle.fewest.proofs.threads.clear.Goals as goal
 
-blank : (b : List ℕ) → ((j : ℕ) → j < length b → get_or b j 0 ≡ 255) → Blank b
-blank b all i h = rw (cells_at b i h, all (i + i) (omega arith), all (i + i + 1) h)
+blank : (n : ℕ) → Blank (replicate n 255)
+blank n i h =
+    let long = length-replicate {A = ℕ} n 255 in
+    rw (cells_at (replicate n 255) i h, get_or-replicate {A = ℕ} n (i + i) 255 0 (omega (arith, long)), get_or-replicate {A = ℕ} n (i + i + 1) 255 0 (omega (arith, long)))
 
 pub returns : goal.returns
-returns c = let at = c.loop-i in blank at.scratch (λ j h. at.invariant.2 j (omega arith))
+returns c = rw (c.fill.ensures.after (λ y e. e)) (blank _)

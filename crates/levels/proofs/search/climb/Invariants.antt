@@ -2,13 +2,11 @@
 -- The measure is the records above.
 use Prim.Native.Nat.{◌-◌, ◌<◌}
 use Rattle.meaning.specs.Limits.{records}
-use Rattle.fewest.specs.Work.{goal_of}
-use Rattle.levels.specs.Levelled.{Hinted}
+use Rattle.levels.specs.Levelled.{HintedFor}
 use Rattle.levels.proofs.search.climb.Given as goal
 
-abbrev pub invariant-loop-at : goal.invariant-loop-at
-invariant-loop-at l =
-    (l.at < records) × Hinted l.site l.triples l.rule l.up l.role l.first (goal_of l.goal) l.initial.numbers l.numbers
+abbrev pub invariant-loop-operand : goal.invariant-loop-operand
+invariant-loop-operand l = (l.operand < records) × HintedFor l.task l.initial.numbers l.numbers
 
-abbrev pub decreases-loop-at : goal.decreases-loop-at
-decreases-loop-at l = records - l.at
+abbrev pub decreases-loop-operand : goal.decreases-loop-operand
+decreases-loop-operand l = records - l.operand

@@ -6,10 +6,10 @@ use Rattle.levels.proofs.Hints.{name_worked}
 use native.Mathlib.Omega.{arith}
 use Rattle.levels.proofs.search.rest_at.Goals as goal
 
-pub returns-then-term-u : goal.returns-then-term-u
-returns-then-term-u c =
+pub returns-in-Term : goal.returns-in-Term
+returns-in-Term c =
     name_worked c.in-Term.is
     (c.rest.ensures _ (at_name refl) (λ e. absurd (omega arith))).reached
 
-pub returns-in-Term : goal.returns-in-Term
-returns-in-Term c = stay
+pub returns-in-Term-2 : goal.returns-in-Term-2
+returns-in-Term-2 c = stay

@@ -1,12 +1,6 @@
--- `levels::search::rise` meets its contract: each turn takes the lowest bit away.
--- The measure is the set that is left.
-use Rattle.fewest.specs.Work.{goal_of}
-use Rattle.levels.specs.Levelled.{Hinted}
+-- `levels::search::rise` meets its contract: step by step of the set.
+use Rattle.levels.specs.Levelled.{HintedFor}
 use Rattle.levels.proofs.search.rise.Given as goal
 
-abbrev pub invariant-loop-rest : goal.invariant-loop-rest
-invariant-loop-rest l =
-    Hinted l.site l.triples l.rule l.up l.role l.first (goal_of l.goal) l.initial.numbers l.numbers
-
-abbrev pub decreases-loop-rest : goal.decreases-loop-rest
-decreases-loop-rest l = l.rest
+abbrev pub invariant-loop-bit : goal.invariant-loop-bit
+invariant-loop-bit l = HintedFor l.task l.initial.numbers l.numbers

@@ -1,12 +1,6 @@
--- `levels::search::take_set` meets its contract: each turn takes the lowest bit away.
--- The measure is the set that is left.
-use Rattle.fewest.specs.Work.{goal_of}
-use Rattle.levels.specs.Levelled.{Levelled}
+-- `levels::search::take_set` meets its contract: step by step of the set.
+use Rattle.levels.specs.Levelled.{LevelledFor}
 use Rattle.levels.proofs.search.take_set.Given as goal
 
-abbrev pub invariant-loop-rest : goal.invariant-loop-rest
-invariant-loop-rest l =
-    Levelled l.site l.triples l.rule l.up l.role l.first (goal_of l.goal) l.initial.numbers l.numbers l.initial.scratch l.scratch
-
-abbrev pub decreases-loop-rest : goal.decreases-loop-rest
-decreases-loop-rest l = l.rest
+abbrev pub invariant-loop-bit : goal.invariant-loop-bit
+invariant-loop-bit l = LevelledFor l.task l.initial.numbers l.numbers l.initial.scratch l.scratch

@@ -1,9 +1,6 @@
--- `levels::sets::befores` meets its contract, one record after another: the measure is the record.
+-- `levels::sets::befores` meets its contract, one record after another.
 use Rattle.fewest.specs.Kept.{Kept}
 use Rattle.levels.proofs.sets.befores.Given as goal
 
 abbrev pub invariant-loop-r : goal.invariant-loop-r
 invariant-loop-r l = Kept l.initial.scratch l.scratch
-
-abbrev pub decreases-loop-r : goal.decreases-loop-r
-decreases-loop-r l = l.r

@@ -3,18 +3,17 @@
 use Prim.Native.Nat.{ℕ, ◌-◌, ◌<◌}
 use mathlib.Core.Path.{◌≡◌}
 use Rattle.records.specs.Sites.{site_of}
-use Rattle.records.specs.Rules.{axis_numbered}
+use Rattle.records.specs.Rules.{axis_of}
 use Rattle.fewest.specs.Pairs.{pairs}
-use Rattle.fewest.specs.Frame.{frame}
-use Rattle.fewest.specs.Work.{goal_of}
 use Rattle.fewest.specs.Threads.{start_by}
+use Rattle.path.specs.Offers.{frame_of}
 use Rattle.path.proofs.Stepping.{Idle}
 use Rattle.path.proofs.choose.by_thread.Given as goal
 
 abbrev pub invariant-loop-k : goal.invariant-loop-k
 invariant-loop-k l =
-    (l.k < l.triples → start_by l.axis (site_of l.site l.triples) l.k ≡ l.t) ×
-    ((j : ℕ) → j < l.k → Idle (frame (site_of l.site l.triples) l.up l.role (goal_of l.goal)) (pairs l.numbers) (axis_numbered l.axis) l.label l.r l.t l.d j)
+    (l.k < l.site.triples → start_by l.fn.axis (site_of l.site.bytes.now l.site.triples) l.k ≡ l.t) ×
+    ((j : ℕ) → j < l.k → Idle (frame_of l.task) (pairs l.numbers) (axis_of l.fn.axis) l.label l.r l.t l.d j)
 
 abbrev pub decreases-loop-k : goal.decreases-loop-k
-decreases-loop-k l = l.triples - l.k
+decreases-loop-k l = l.site.triples - l.k

@@ -1,26 +1,15 @@
-use Prim.Native.Nat.{◌<◌}
+use mathlib.Core.Path.{sym}
 use native.Mathlib.Omega.{arith}
-use lib.ListN.{get_or}
-use Rattle.meaning.specs.Limits.{records}
 use Rattle.path.proofs.Climbing.{climb_first, climb_up}
 use Rattle.path.proofs.enter.follow.Goals as goal
-use Rattle.path.proofs.enter.follow.Goals.{Else-stands-eq-AS_WHOLE}
 
--- the parent's record is above, and one of the records
-higher : (c : Else-stands-eq-AS_WHOLE) → let at = c.loop-r.at in let parent = get_or c.args.up.now at 0 in (at < parent) × (parent < records)
-higher c = c.requires.0.higher _ c.loop-r.invariant.inside c.if-stands-eq-AS_WHOLE.false
+pub returns-in-First : goal.returns-in-First
+returns-in-First c =
+    climb_first c.loop-shut.invariant (sym c.in-First.ensures) (rw c.above-above.ensures at c.mark.ensures)
 
-pub bounds-role-at : goal.bounds-role-at
-unfolding records
-bounds-role-at c = c.loop-r.invariant.inside
-
-pub returns-then-stands-eq-AS_FIRST : goal.returns-then-stands-eq-AS_FIRST
-returns-then-stands-eq-AS_FIRST c = climb_first c.loop-r.invariant c.if-stands-eq-AS_FIRST.true c.mark-changed.ensures
-
-pub loop-r-preserved : goal.loop-r-preserved
-loop-r-preserved c =
-    let climb = c.loop-r.invariant in
-    let known = c.requires.0.known _ climb.inside in
-    climb_up climb (higher (goal.at.loop-r-preserved c).Else-stands-eq-AS_WHOLE).1
-    (omega (arith, known, c.if-stands-eq-AS_FIRST.false, c.if-stands-eq-AS_TEST.false, c.if-stands-eq-AS_WHOLE.false))
-    c.mark-changed.ensures
+pub loop-shut-preserved : goal.loop-shut-preserved
+loop-shut-preserved c =
+    let climb = c.loop-shut.invariant in
+    let round = sym c.in-Round.ensures in
+    let higher = c.requires.0.higher _ climb.inside (λ e. omega arith) in
+    rw c.above-above.ensures (climb_up climb higher.1 round (rw c.above-above.ensures at c.mark-changed.ensures))

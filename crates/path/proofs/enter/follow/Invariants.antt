@@ -4,8 +4,8 @@ use Rattle.meaning.specs.Limits.{records}
 use Rattle.path.proofs.Climbing.{Climbing}
 use Rattle.path.proofs.enter.follow.Given as goal
 
-abbrev pub invariant-loop-r : goal.invariant-loop-r
-invariant-loop-r l = Climbing l.up l.role l.r l.initial.shut l.shut l.was l.changed l.at
+abbrev pub invariant-loop-shut : goal.invariant-loop-shut
+invariant-loop-shut l = Climbing l.links.up l.links.role l.r l.initial.shut l.shut l.was l.changed l.at
 
-abbrev pub decreases-loop-r : goal.decreases-loop-r
-decreases-loop-r l = records - l.at
+abbrev pub decreases-loop-shut : goal.decreases-loop-shut
+decreases-loop-shut l = records - l.at

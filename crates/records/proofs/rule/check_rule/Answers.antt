@@ -1,84 +1,68 @@
-use Prim.Native.Nat.{ℕ}
-use mathlib.Core.Path.{◌≡◌, refl, sym, ◌∙◌, ap}
-use mathlib.Core.Logic.{◌≢◌}
-use native.Mathlib.Nat.{lt_irrefl, lt_of_lt_of_le}
+use mathlib.Core.Path.{◌≡◌, sym, ◌∙◌, ap}
 use native.Mathlib.Omega.{arith}
+use Rattle.std.proofs.Common.{Some, None, Ok}
+use Rattle.std.proofs.lemmas.Result.{err_from_is_err_and}
 use Rattle.meaning.specs.Limits.{records}
-use Rattle.records.specs.declared.Refusal.{Refusal}
-use Rattle.records.specs.declared.Record.{Record}
-use Rattle.records.specs.declared.rule.RuleRecord.{RuleRecord}
-use Rattle.records.specs.declared.rule.RuleRecord.TheVariants as found
-use Rattle.records.specs.declared.rule.RuleAnswer.TheVariants as answered
 use Rattle.records.specs.Rules.{rule_record_at}
 use Rattle.records.proofs.Reading.{Good, read_good, end_past}
 use Rattle.records.proofs.Starts.{front_none}
-use Rattle.records.proofs.Progress.{progress_none, progress_more, progress_one, progress_not_one, progress_refused, refused_checked}
+use Rattle.records.proofs.Progress.{progress_none, progress_more, progress_one, progress_not_one, progress_refused}
 use Rattle.records.proofs.rule.check_rule.Goals as goal
-use Rattle.records.proofs.rule.check_rule.Goals.{In-Record}
+use Rattle.records.proofs.rule.check_rule.Goals.{In-Some, In_default}
 
--- what was found is a record
-found_here : (c : In-Record) → let p = c.loop-at in rule_record_at c.args.rule.now p.at p.count p.height ≡ found.Record c.in-Record.record c.in-Record.next
-found_here c = sym c.rule_record-found.ensures ∙ c.in-Record.is
+-- what was found is a record,
+found_here : (c : In-Some) → let p = c.loop-record in
+    rule_record_at c.args.rule.now p.at p.count p.height ≡ Ok (Some (c.in-Some.record, c.in-Some.next))
+found_here c = sym c.rule_record.ensures ∙ c.in_ok-record.was ∙ ap Ok c.in-Some.is
 
--- so it is a good one
-good : (c : In-Record) → let p = c.loop-at in Good c.args.rule.now p.at p.count p.height c.in-Record.record c.in-Record.next
+-- so it is a good one;
+good : (c : In-Some) → let p = c.loop-record in Good c.args.rule.now p.at p.count p.height c.in-Some.record c.in-Some.next
 good c = read_good _ _ _ _ (found_here c)
 
--- what is no record, and not the end, is a refusal
-refused_one : (x : RuleRecord) → ((r : Record) (on : ℕ) → x ≢ found.Record r on) → x ≢ found.End → (f : Refusal) × (x ≡ found.Refused f)
-refused_one (found.Record r on) none other = absurd (none r on refl)
-refused_one found.End none other = absurd (other refl)
-refused_one (found.Refused f) none other = (f, refl)
+-- or it is the end
+past : (c : In_default) → let p = c.loop-record in rule_record_at c.args.rule.now p.at p.count p.height ≡ Ok None
+past c = sym c.rule_record.ensures ∙ c.in_ok-record.was ∙ ap Ok c.in_default.is
 
-pub loop-at-init : goal.loop-at-init
+pub loop-record-init : goal.loop-record-init
 unfolding records
-loop-at-init c = progress_none front_none
+loop-record-init c = progress_none front_none
 
-pub returns-in_default : goal.returns-in_default
-returns-in_default c =
-    let p = c.loop-at in
-    let same = c.rule_record-found.ensures in
-    let refused =
-    refused_one c.rule_record-found.result c.in_default.not-Record
-    (λ e. lt_irrefl _ (lt_of_lt_of_le c.loop-at-test.true (end_past _ _ _ _ (sym same ∙ e)))) in
-    refused_checked (progress_refused p.invariant (sym same ∙ refused.1))
-    (c.refused_rule.ensures.0 ∙ ap answered.Refused (c.refusal_of.ensures refused.0 refused.1))
-    c.refused_rule.ensures.1
+pub returns-in_err-record : goal.returns-in_err-record
+returns-in_err-record c =
+    let p = err_from_is_err_and c.from_residual.result c.from_residual.ensures.1 in
+    rw (p.1, p.2) (progress_refused c.loop-record.invariant (sym c.rule_record.ensures ∙ c.in_err-record.was))
 
 pub overflow_cast-starts : goal.overflow_cast-starts
 unfolding records
-overflow_cast-starts c =
-    let g = good (goal.at.overflow_cast-starts c).In-Record in
-    let p = c.loop-at in
-    omega (arith, g.room, p.invariant.near)
+overflow_cast-starts c = omega (arith, good c)
 
 pub bounds-starts-count : goal.bounds-starts-count
 unfolding records
-bounds-starts-count c = (good (goal.at.bounds-starts-count c).In-Record).room
+bounds-starts-count c = (good c).room
 
 pub overflow_add-count : goal.overflow_add-count
 unfolding records
-overflow_add-count c = let g = good (goal.at.overflow_add-count c).In-Record in omega arith
+overflow_add-count c = omega (arith, good c)
 
 pub overflow_sub-height : goal.overflow_sub-height
-overflow_sub-height c = rw c.operands_of.ensures (good (goal.at.overflow_sub-height c).In-Record).enough
+overflow_sub-height c = rw c.operands_of.ensures (good (goal.at.overflow_sub-height c).In-Some).enough
 
 pub overflow_add-height : goal.overflow_add-height
 unfolding records
-overflow_add-height c = let g = good (goal.at.overflow_add-height c).In-Record in omega arith
+overflow_add-height c = omega (arith, good (goal.at.overflow_add-height c).In-Some)
 
-pub loop-at-smaller : goal.loop-at-smaller
-loop-at-smaller c = let g = good (goal.at.loop-at-smaller c).In-Record in omega arith
+pub loop-record-smaller : goal.loop-record-smaller
+loop-record-smaller c = omega (arith, good (goal.at.loop-record-smaller c).In-Some)
 
-pub loop-at-preserved : goal.loop-at-preserved
-loop-at-preserved c =
-    let p = c.loop-at in
-    rw c.operands_of.ensures (progress_more p.invariant (found_here (goal.at.loop-at-preserved c).In-Record))
+pub loop-record-preserved : goal.loop-record-preserved
+loop-record-preserved c =
+    rw c.operands_of.ensures (progress_more c.loop-record.invariant (found_here (goal.at.loop-record-preserved c).In-Some))
 
 pub returns-then-height-ne1 : goal.returns-then-height-ne1
 returns-then-height-ne1 c =
-    refused_checked (progress_not_one c.loop-at.invariant c.loop-at-test.false c.if-height-ne1.true)
-    c.refused_rule-then-height-ne1.ensures.0 c.refused_rule-then-height-ne1.ensures.1
+    rw c.at.ensures
+    (progress_not_one c.loop-record.invariant (end_past _ _ _ _ (past (goal.at.returns-then-height-ne1 c).In_default)) c.if-height-ne1.true)
 
 pub returns : goal.returns
-returns c = progress_one c.loop-at.invariant c.loop-at-test.false c.if-height-ne1.false
+returns c =
+    progress_one c.loop-record.invariant (end_past _ _ _ _ (past (goal.at.returns c).In_default)) c.if-height-ne1.false

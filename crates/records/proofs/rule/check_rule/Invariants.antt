@@ -4,8 +4,8 @@ use lib.ListN.{length}
 use Rattle.records.proofs.Progress.{Progress}
 use Rattle.records.proofs.rule.check_rule.Given as goal
 
-abbrev pub invariant-loop-at : goal.invariant-loop-at
-invariant-loop-at l = Progress l.rule l.starts l.at l.count l.height
+abbrev pub invariant-loop-record : goal.invariant-loop-record
+invariant-loop-record l = Progress l.rule l.starts l.at l.count l.height
 
-abbrev pub decreases-loop-at : goal.decreases-loop-at
-decreases-loop-at l = length l.rule - l.at
+abbrev pub decreases-loop-record : goal.decreases-loop-record
+decreases-loop-record l = length l.rule - l.at

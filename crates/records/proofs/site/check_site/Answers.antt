@@ -1,28 +1,22 @@
-use Prim.Native.Nat.{◌+◌}
+use mathlib.Core.Path.{refl}
 use native.Mathlib.Omega.{arith}
-use mathlib.Core.Path.{◌≡◌, ◌∙◌}
-use Rattle.records.specs.Sites.{triple_width, site_record_at}
-use Rattle.records.specs.declared.site.SiteRecord.TheVariants.{Triple as Read}
-use Rattle.records.proofs.SiteRecord.{whole}
-use Rattle.records.proofs.Readers.{stood, went_on}
-use Rattle.records.proofs.Begun.{begun_on, begun_stops}
+use Rattle.std.proofs.lemmas.Result.{err_from_is_err_and}
+use Rattle.records.proofs.Begun.{passes, ends_here, refused_here}
 use Rattle.records.proofs.site.check_site.Goals as goal
-use Rattle.records.proofs.site.check_site.Goals.{In-Triple}
 
--- a triple was read, and the reader went on
-read : (c : In-Triple) → site_record_at c.args.site.now c.loop-at.at ≡ Read c.in-Triple.field-0
-read c = stood _ _ _ c.read_at-step.ensures ∙ c.in-Triple.is
+pub returns-in_err-next : goal.returns-in_err-next
+returns-in_err-next c =
+    let p = err_from_is_err_and c.from_residual.result c.from_residual.ensures.1 in
+    rw (p.1, p.2) (refused_here c.loop.invariant c.in_err-next.ensures)
 
-past : (c : In-Triple) → c.read_at-step.result.at ≡ c.loop-at.at + triple_width
-past c = went_on _ _ _ c.read_at-step.ensures c.in-Triple.is
+pub loop-init : goal.loop-init
+loop-init c = rw c.new-reader.ensures (record { bytes = refl; begun = c.plain_until.ensures })
+
+pub loop-smaller : goal.loop-smaller
+loop-smaller c = omega (arith, passes c.loop.invariant (rw c.in-Some.is at c.in_ok-next.ensures))
+
+pub loop-preserved : goal.loop-preserved
+loop-preserved c = (passes c.loop.invariant (rw c.in-Some.is at c.in_ok-next.ensures)).2
 
 pub returns-in_default : goal.returns-in_default
-returns-in_default c =
-    rw c.finish.ensures
-    (begun_stops _ _ _ c.loop-at.invariant (stood _ _ _ c.read_at-step.ensures) c.in_default.not-Triple)
-
-pub loop-at-smaller : goal.loop-at-smaller
-loop-at-smaller c = omega (arith, past c, whole _ _ (read c))
-
-pub loop-at-preserved : goal.loop-at-preserved
-loop-at-preserved c = begun_on _ _ _ c.loop-at.invariant (read c) (past c)
+returns-in_default c = ends_here c.loop.invariant (rw c.in_default.is at c.in_ok-next.ensures)
