@@ -1,4 +1,4 @@
--- From the arrays and tables that the loops know to document 01's questions and ends: marking only what is asked for keeps
+-- From the lists and tables that the loops know to document 01's questions and ends: marking only what is asked for keeps
 -- the tables fair, and when nothing asked for is unmarked they are followed. So the marks are the questions and the ends.
 use Prim.Native.Nat.{ℕ, zero, suc, ◌*◌, ◌-◌, ◌<◌, ◌≤◌}
 use mathlib.Core.Path.{◌≡◌, refl, sym, ◌∙◌}

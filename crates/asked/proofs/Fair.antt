@@ -1,5 +1,5 @@
 -- Marking only what is asked for keeps the tables fair: each mark is a question of document 01, each marked end an end.
--- The work of a record, read off the arrays, is told here as what it does at the subexpression that the record names.
+-- The work of a record, read off the lists, is told here as what it does at the subexpression that the record names.
 use Prim.Native.Nat.{ℕ, ◌*◌, ◌<◌, ◌≤◌}
 use mathlib.Core.Path.{◌≡◌, refl, sym, subst, subst₂, ◌∙◌}
 use mathlib.Core.Logic.{⊎_elim}

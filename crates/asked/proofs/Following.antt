@@ -1,5 +1,5 @@
--- What follows once a subexpression is done, told by the arrays, is what its context says.
--- The numbers of the arrays meet the expression here, in Fair.antt and in Bridge.antt, and nowhere else.
+-- What follows once a subexpression is done, told by the lists, is what its context says.
+-- The numbers of the lists meet the expression here, in Fair.antt and in Bridge.antt, and nowhere else.
 use Prim.Native.Nat.{ℕ}
 use mathlib.Core.Path.{◌≡◌, refl, sym, subst₂, ◌∙◌}
 use mathlib.Core.Logic.{⊎_elim}
@@ -30,7 +30,7 @@ pub record EachNext (F : Frame) (m : Table) (ends : ℕ → ℕ) (u r : ℕ) : T
   pub home : Home F r → ends u ≡ 1
 
 module _ {rule : Expr} {L : Links} (numbered : Numbered 0 rule) (linked : Linked rule L) {s : Site} {g : Goal} where
-  -- Where a subexpression is done, what the arrays say is asked next is asked.
+  -- Where a subexpression is done, what the lists say is asked next is asked.
   pub next_asked : (e : Expr) (K : Context) {b z u : ℕ} → plug e K ≡ rule → Next (along L s g) (last e) b →
       Comes s z (finished e K u) → Stands s z rule (question b u)
   next_asked e whole p n c = absurd (role_next linked e whole p n)
@@ -49,7 +49,7 @@ module _ {rule : Expr} {L : Links} (numbered : Numbered 0 rule) (linked : Linked
       ⊎_elim (λ h. (e, round_of r K, p, sym (h ∙ round), (comes_free round_again c).here))
       (λ h. next_asked (star r e) K p h (comes_free round_out c)) (role_next linked e (round_of r K) p n)
 
-  -- Where a subexpression is done and the arrays say that the whole rule is, the rule relates the start to that term.
+  -- Where a subexpression is done and the lists say that the whole rule is, the rule relates the start to that term.
   pub home_related : (e : Expr) (K : Context) {z u : ℕ} → plug e K ≡ rule → Home (along L s g) (last e) →
       Comes s z (finished e K u) → Rel s rule z u
   home_related e whole {u = u} p h c = let (t, start, v) = c.here in subst₂ (λ x y. Rel s x y u) p start v
@@ -69,7 +69,7 @@ module _ {rule : Expr} {L : Links} (numbered : Numbered 0 rule) (linked : Linked
   all_as e f K J p q ups roles all =
       record { next = λ b n. all.next b (next_as linked f e J K q p ups roles n); home = λ h. all.home (home_as linked f e J K q p ups roles h) }
 
-  -- Where all that the arrays say follows is marked, all that the context says follows is.
+  -- Where all that the lists say follows is marked, all that the context says follows is.
   pub all_follows : {m : Table} {ends : ℕ → ℕ} {u : ℕ} (e : Expr) (K : Context) → plug e K ≡ rule →
       EachNext (along L s g) m ends u (last e) → Follows m ends e K u
   all_follows {m} {ends} {u} e whole p c = c.home (at_home (linked.roles e whole p))

@@ -26,7 +26,7 @@ use Rattle.asked.specs.Mark.{Marks, marks, Marked, Marking, stay}
 use Rattle.asked.specs.Serve.{Kept}
 use Rattle.asked.specs.Seek.{Bits, CalmBy, Pursued}
 use Rattle.asked.specs.Chase.{WorkAsked}
-use Rattle.asked.proofs.Marking.{marking_then, marking_bits, marking_grows, calm_by_grows}
+use Rattle.asked.proofs.Marking.{marking_then, marking_long, marking_bits, marking_grows, calm_by_grows}
 use Rattle.asked.proofs.ByMoves.{calm_triples}
 use Rattle.asked.proofs.Seeking.{went_by}
 
@@ -115,9 +115,10 @@ module _ {b : List ℕ} {n : ℕ} (axis : CodeAxis) (good : Accepted b n) where
         λ i u v. went_by l taken look g t i u small ((marking_grows gone.made).marked r t marked) v in
         gone_more b axis gone (went i u v).0 (λ i u v. (went i u v).1) first
 
-    -- The ends stay a table of bits.
-    pub seen_bits : {k : ℕ} {M : Marks} {L E : List ℕ} → Bits M.ends → Seen b n axis l up role T r t k M (marks L E) → Bits E
-    seen_bits bits seen = marking_bits (seen anywhere).made bits
+    -- The ends stay a table of bits, and keep their length.
+    pub seen_bits : {k : ℕ} {M : Marks} {L E : List ℕ} → Bits M.ends → Seen b n axis l up role T r t k M (marks L E) →
+        Bits E × (length E ≡ length M.ends)
+    seen_bits bits seen = let made = (seen anywhere).made in (marking_bits made bits, (marking_long made).1)
 
   -- The first triple from t by the threads, and the next by threads that were kept.
   pub first_along : {X : List ℕ} {t k : ℕ} → Threads b n X → t < terms → ThreadFirst X axis t k → FirstWith (start_by axis (site_of b n)) n t 0 k

@@ -1,5 +1,5 @@
 -- Marking goes on where marking stopped, and marks only grow: what asks for nothing unmarked stays so.
--- Nothing here knows the rule but by its arrays.
+-- Nothing here knows the rule but by its lists.
 use Prim.Native.Nat.{ℕ, ◌-◌, ◌<◌}
 use mathlib.Core.Path.{◌≡◌, refl, ◌∙◌}
 use mathlib.Core.Logic.{⊎_elim}
@@ -78,6 +78,12 @@ module _ {F : Frame} {T : List ℕ} {w : Work} {r : ℕ} where
   marking_then p (mark q h a e) = mark (marking_then p q) h a e
   marking_then p (arrive q h d o e) = arrive (marking_then p q) h d o e
 
+  -- The tables keep their lengths.
+  pub marking_long : {M N : Marks} → Marking F T w r M N → (length N.asked ≡ length M.asked) × (length N.ends ≡ length M.ends)
+  marking_long stay = (refl, refl)
+  marking_long (mark {N} q h a e) = let (long, ends) = marking_long q in (length-set N.asked _ 1 ∙ long, ends)
+  marking_long (arrive {N} q h d o e) = let (long, ends) = marking_long q in (long, length-set N.ends _ 1 ∙ ends)
+
   -- The ends stay a table of bits.
   pub marking_bits : {M N : Marks} → Marking F T w r M N → Bits M.ends → Bits N.ends
   marking_bits stay e = e
@@ -99,6 +105,14 @@ module _ {F : Frame} {T : List ℕ} {rs : List Rec} {first : List ℕ} where
   pub marks_on_then : {M N P : Marks} → MarksOn F T rs first M N → MarksOn F T rs first N P → MarksOn F T rs first M P
   marks_on_then p rest = p
   marks_on_then p (work q h i l) = work (marks_on_then p q) h i l
+
+  -- The tables keep their lengths.
+  pub marks_on_long : {M N : Marks} → MarksOn F T rs first M N → (length N.asked ≡ length M.asked) × (length N.ends ≡ length M.ends)
+  marks_on_long rest = (refl, refl)
+  marks_on_long (work q h i l) =
+      let (long, ends) = marking_long l in
+      let (before, lent) = marks_on_long q in
+      (long ∙ before, ends ∙ lent)
 
   -- The ends stay a table of bits.
   pub marks_on_bits : {M N : Marks} → MarksOn F T rs first M N → Bits M.ends → Bits N.ends

@@ -6,22 +6,18 @@ use Rattle.records.specs.declared.Step.{Step}
 use Rattle.records.specs.declared.Record.{Record}
 use Rattle.fewest.specs.declared.task.Task.{Task}
 use Rattle.fewest.specs.Pairs.{pairs}
-use Rattle.fewest.specs.Threads.{Threads}
+use Rattle.fewest.specs.Tasks.{ThreadsOf}
 use Rattle.asked.specs.declared.follow.After.{After}
 use Rattle.asked.specs.Mark.{Marks, Marked}
 use Rattle.asked.specs.Seek.{Bits, marks_in, Onward, Pursued, MarkedOver}
 use Rattle.asked.specs.Chase.{StepAsked, StayAsked, RecordAsked, Chased}
-
--- the threads of the task's site stand in the byte table
-abbrev pub ThreadsIn : Task → List ℕ → Type 0
-ThreadsIn x X = Threads x.site.bytes.now x.site.triples X
 
 -- what asking on from the question of record r at t stands on: it is marked, in tables with the site's threads
 pub record AtQuestion (x : Task) (X ends : List ℕ) (r t : ℕ) : Type 0 where
   pub bits : Bits ends
   pub row : r < records
   pub small : t < terms
-  pub threads : ThreadsIn x X
+  pub threads : ThreadsOf x X
   pub marked : Marked (marks_in X ends) r t
 
 -- so record r goes on where its expression is done

@@ -6,10 +6,11 @@ ghost use Rattle.records.specs.declared.Label.{Label};
 ghost use Rattle.records.specs.declared.Label.TheVariants.{Any, Term, Test};
 ghost use Rattle.fewest.specs.Offer.{place};
 ghost use Rattle.fewest.specs.Work.{Tests, Sits};
+ghost use Rattle.fewest.specs.Tasks.{ThreadsOf};
 ghost use Rattle.asked.specs.Mark.{Marked};
 ghost use Rattle.asked.specs.Serve.{Waits, NoneWaits, OneServed, Fewer, Kept, most, Picked};
 ghost use Rattle.asked.specs.Seek.{Bits, marks_in};
-ghost use Rattle.asked.specs.Task.{ThreadsIn, AtQuestion, OnwardIn, PursuedIn, StepAskedIn, StayAskedIn, RecordAskedIn, ChasedIn};
+ghost use Rattle.asked.specs.Task.{AtQuestion, OnwardIn, PursuedIn, StepAskedIn, StayAskedIn, RecordAskedIn, ChasedIn};
 
 use crate::follow::{After, follow};
 use crate::mark::{MOST, WAITS, mark, queued, take_up};
@@ -26,6 +27,7 @@ use records::site::term_at;
 use records::{Axis, Label, RECORDS, Record, Step};
 
 // The label of a step, told by a type, so that the compiler knows it where it makes a loop along a thread.
+// With the label as a value in one loop one input took 73 % more instructions.
 trait Labelled: Copy {
     ghost label: { Self → Label };
 
@@ -86,6 +88,7 @@ fn go<L: Labelled>(
     let parts = parts_of(axis);
     let by = next_by(axis);
     let mut k = first_from(asked, axis, t);
+    // No iterator: `pursue` writes the table that holds the threads, which an iterator would have to borrow.
     while k < site.triples {
         let middle = term_at(site.bytes, k, parts.middle);
         let to = term_at(site.bytes, k, parts.to);
@@ -242,7 +245,7 @@ fn ask_one(
     r: usize,
     t: usize,
 )
-    requires { Bits ends.old × (r < task.now.rule.count) × (t < terms) × ThreadsIn task.now asked.old }
+    requires { Bits ends.old × (r < task.now.rule.count) × (t < terms) × ThreadsOf task.now asked.old }
     ensures { ChasedIn task.now numbers.now asked.old ends.old asked.new ends.new × OneServed r t asked.old asked.new }
 {
     if take_up(asked, r, t) {
@@ -272,7 +275,7 @@ fn ask_at(
     from: usize,
     t: usize,
 )
-    requires { Bits ends.old × (from < task.now.rule.count) × (t < terms) × ThreadsIn task.now asked.old }
+    requires { Bits ends.old × (from < task.now.rule.count) × (t < terms) × ThreadsOf task.now asked.old }
     ensures { ChasedIn task.now numbers.now asked.old ends.old asked.new ends.new × (Waits asked.old (place from t) → Fewer asked.old asked.new) }
 {
     let mut r = from;
@@ -331,7 +334,7 @@ pub fn chase(
     ends: &mut [u8],
     tail: usize,
 )
-    requires { Bits ends.old × (0 < task.now.rule.count) × ThreadsIn task.now asked.old }
+    requires { Bits ends.old × (0 < task.now.rule.count) × ThreadsOf task.now asked.old }
     ensures { ChasedIn task.now numbers.now asked.old ends.old asked.new ends.new × NoneWaits asked.new (task.now.rule.count * terms) }
 {
     let mut queue = Queue { head: 0, tail };

@@ -22,6 +22,7 @@ pub fn follow(ahead: &Ahead, r: usize) -> After
 {
     let mut set = 0;
     let mut at = r;
+    // No iterator: three of the four roles end the walk, each in its own way, so that a fold would keep this match and a flag.
     loop {
         let above = ahead.links.above(at);
         match ahead.links.role(at) {

@@ -13,6 +13,7 @@ use fewest::threads::FREE;
 use records::{RECORDS, TERMS};
 
 // Behind the threads: a ring of terms that are queued, the words of the marks, and the words of what waits.
+// The ring is bytes of the lent table, and no VecDeque: the evaluator has fixed memory and no heap.
 const QUEUE: usize = FREE + FREE;
 
 const RING: usize = TERMS + TERMS;
@@ -57,7 +58,8 @@ fn renew(asked: &mut [u8; ENTRIES], t: usize, old: u32, all: u32) -> u32
     waiting
 }
 
-// The questions of these records at t are marked now, and those that were not wait. Whether none waited there before.
+// The questions of these records at t are marked now, and those that were not wait. Whether something was new and none waited there
+// before.
 #[tactic(auto, unfolding(meaning::specs::Limits::terms))]
 pub fn mark(asked: &mut [u8; ENTRIES], set: u32, t: usize) -> bool
     requires { t < terms }
@@ -82,6 +84,7 @@ pub fn mark_on(asked: &mut [u8; ENTRIES], tail: &mut usize, set: u32, t: usize)
 }
 
 // The end u is marked now, where the rule is done and a table of ends is lent.
+// Not lent is an empty table, and no Option: what is promised of `ask` (`MarkedIn`) speaks of as many ends as are lent.
 pub fn arrive(ends: &mut [u8], home: bool, u: usize)
     ensures { ArrivedIf home u ends.old ends.new }
 {

@@ -2,9 +2,10 @@
 ghost use Rattle.std.specs.Prelude.{◌≡◌, ◌*◌, ◌<◌, length, replicate};
 ghost use Rattle.meaning.specs.Limits.{terms, records};
 ghost use Rattle.fewest.specs.Kept.{Kept};
+ghost use Rattle.fewest.specs.Tasks.{ThreadsOf};
 ghost use Rattle.asked.specs.Mark.{marks};
 ghost use Rattle.asked.specs.Serve.{markeds};
-ghost use Rattle.asked.specs.Task.{ThreadsIn, MarkedIn};
+ghost use Rattle.asked.specs.Task.{MarkedIn};
 
 use crate::chase::chase;
 use crate::mark::{MARKS, mark_on};
@@ -39,7 +40,7 @@ pub fn ask(
     asked: &mut [u8; ENTRIES],
     ends: &mut [u8],
 )
-    requires { (0 < task.now.rule.count) × (start < terms) × ThreadsIn task.now asked.old }
+    requires { (0 < task.now.rule.count) × (start < terms) × ThreadsOf task.now asked.old }
     ensures { MarkedIn task.now numbers.now start (length ends.old) (marks asked.new ends.new) }
 {
     free(asked);

@@ -9,6 +9,7 @@ use records::rule::{RuleRead, check_rule};
 use records::site::check_site;
 
 // The query that is in order, or the first refusal. A call that takes no start or no end passes 0, which is a term.
+// 0 and no Option: what is promised (`Admitted`) is of two terms, and the calls' own promises say which of them was asked.
 pub fn admit<'a>(site: &'a [u8], rule: &'a [u8], start: u32, end: u32) -> Result<Query<'a>, Refusal>
     ensures { Admitted site.now rule.now start end result }
 {

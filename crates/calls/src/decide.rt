@@ -48,6 +48,7 @@ fn show<C: Lent>(
 }
 
 // The decision by the steps, by the most that the room holds and by the figure, which is counted.
+// The steps are the number table's entry, where document 01 stores 65,535 for none; what is promised (`verdict`) takes that number.
 pub fn finish(asked: &[u8], steps: usize, most: usize) -> Result<Answer, Refusal>
     requires { Bits asked.now }
     ensures { result ≡ verdict steps most (sum asked.now) }

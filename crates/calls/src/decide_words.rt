@@ -10,6 +10,7 @@ use fewest::table::{ENTRIES, NUMBERS};
 use records::Refusal;
 
 // Whether the rule relates start to end, with the figure, both tables filled and the path shown in the room, of any length.
+// Two functions over one `answer`: C calls the one on bytes, and here the table is a local one, so that only this copies.
 pub fn decide(
     site: &[u8],
     rule: &[u8],

@@ -14,6 +14,7 @@ pub mod origins; // origins.rt: all starts
 pub mod ceiling; // ceiling.rt: the most that a figure can be
 
 // Yes or no, the work figure, and the path's steps (0 on no).
+// No Option of steps: callers and C take these three, and `Decided` says of a no that its steps are 0.
 #[derive(Clone, Copy, Debug, PartialEq, Eq)]
 pub struct Answer {
     pub yes: bool,

@@ -57,6 +57,7 @@ pub fn ends_bytes(
 
 // The ends of a start, with the figure and both tables, on tables of numbers: the same on a local table of bytes, copied out
 // where there is an answer.
+// Two functions over one `list`: C calls the one on bytes, and here the table is a local one, so that only this copies.
 pub fn ends(
     site: &[u8],
     rule: &[u8],

@@ -55,6 +55,7 @@ pub fn starts_bytes(
 }
 
 // The starts of an end, on tables of numbers: the same on a local table of bytes, copied out where there is an answer.
+// Two functions over one `list`: C calls the one on bytes, and here the table is a local one, so that only this copies.
 pub fn starts(
     site: &[u8],
     rule: &[u8],

@@ -36,6 +36,7 @@ impl Lent for u16 {
 
     fn put_step(room: &mut [u16], i: usize, x: Taken) {
         let at = 3 * i;
+        // `as`: the three are below 65,536 (`Small`), and try_from would have an error that never comes.
         room[at] = x.by as u16;
         room[at + 1] = x.over as u16;
         room[at + 2] = x.to as u16;

@@ -40,6 +40,7 @@ pub fn copy_back(bytes: &[u8; NUMBERS], numbers: &mut [u16])
     requires { length numbers.old ≡ records * terms }
     ensures { numbers.new ≡ pairs bytes.now }
 {
+    // `as`: two bytes are below 65,536, and try_from would have an error that never comes.
     for (i, number) in numbers.iter_mut().enumerate() {
         *number = get(bytes, i) as u16;
     }

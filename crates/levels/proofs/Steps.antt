@@ -13,7 +13,8 @@ use Rattle.fewest.specs.Pairs.{pairs}
 use Rattle.fewest.specs.Offer.{Lowers}
 use Rattle.fewest.specs.Work.{Tests, work_of}
 use Rattle.levels.specs.declared.step.RuleStep.{RuleStep}
-use Rattle.levels.specs.Levelled.{framed, HintedFor}
+use Rattle.fewest.specs.Tasks.{framed}
+use Rattle.levels.specs.Levelled.{HintedFor}
 use Rattle.levels.proofs.Hints.{hinted_step, stepping_sits}
 
 module _ (s : RuleStep) where

@@ -21,10 +21,6 @@ use Rattle.fewest.specs.Offer.{works_of, Lowers, Settles}
 use Rattle.fewest.specs.Kept.{Kept}
 use Rattle.fewest.specs.Work.{goal_of, work_of, staying, parts_of, Rows}
 
--- what a walk over a task's table is about
-abbrev pub framed : Task → Frame
-framed t = frame (site_of t.site.bytes.now t.site.triples) t.ahead.links.now.up t.ahead.links.now.role (goal_of t.ahead.goal)
-
 -- staying was tried for row r, wherever
 abbrev pub Stayed : Frame → Label → ℕ → ℕ → List ℕ → List ℕ → Type 0
 Stayed F l cost r T T' = (cost ≡ 0 → l ≡ Any) → Lowers F (staying cost l) r T T'

@@ -12,6 +12,7 @@ use fewest::cells::{byte_at, cell, put_byte, put_set};
 use records::TERMS;
 
 // Which of the two it is, and how long its list is.
+// The list is bytes of scratch with its length here, and no Vec: the evaluator has fixed memory and no heap.
 #[derive(Clone, Copy)]
 pub struct Level {
     second: bool,

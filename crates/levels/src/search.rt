@@ -10,8 +10,8 @@ ghost use Rattle.fewest.specs.Pairs.{pairs};
 ghost use Rattle.fewest.specs.Offer.{Lowers};
 ghost use Rattle.fewest.specs.Work.{goal_of, Tests, work_of, Sits};
 ghost use Rattle.fewest.specs.Kept.{Kept};
-ghost use Rattle.fewest.specs.Tasks.{ThreadsOf};
-ghost use Rattle.levels.specs.Levelled.{framed, Stayed, Reached, TakesBy, RecordWorked, HintedFor, LevelledFor};
+ghost use Rattle.fewest.specs.Tasks.{framed, ThreadsOf};
+ghost use Rattle.levels.specs.Levelled.{Stayed, Reached, TakesBy, RecordWorked, HintedFor, LevelledFor};
 
 use crate::bits::Bits;
 use crate::level::Level;
@@ -156,6 +156,7 @@ fn climb(task: &Task, scratch: &[u8], numbers: &mut [u8; NUMBERS], r: usize, at:
     ensures { HintedFor task.now numbers.old numbers.new }
 {
     let mut operand = r;
+    // No iterator of parents: what is stored at each step tells whether the next is gone to.
     loop {
         let above = parent_of(scratch, operand);
         if above <= operand || !climb_one(task, scratch, numbers, operand, above, at) {
@@ -284,6 +285,7 @@ fn take_all(
     let parts = parts_of(axis);
     let by = next_by(inverse(axis));
     let mut k = first_to(scratch, axis, t);
+    // No iterator: `take` writes the table that holds the threads, which an iterator would have to borrow.
     while k < site.triples {
         take(step, scratch, numbers, next, one, parts, k);
         k = next_from(site, scratch, by, t, k);
@@ -366,6 +368,7 @@ fn take_term(
 }
 
 // That at each term of a level. The next level.
+// Not one loop with `rise_level`: the work would be a closure with a law for all that it keeps, which is longer than this loop.
 fn take_level(task: &Task, scratch: &mut [u8], numbers: &mut [u8; NUMBERS], level: Level) -> Level
     ensures { LevelledFor task.now numbers.old numbers.new scratch.old scratch.new }
 {

@@ -37,6 +37,7 @@ enum Column {
 }
 
 // Flags beside the size: the expression may pass empty at a term of the vocabulary; it may end with a star.
+// Bits of the size's cell, and no columns of their own: the columns fill the table to its last cell.
 const EMPTY: usize = 64;
 
 const STAR: usize = 128;
@@ -51,6 +52,8 @@ fn put_hint(scratch: &mut [u8], column: Column, r: usize, v: usize)
 {
     put_set(scratch, HINTS + column as usize * RECORDS + r % RECORDS, v);
 }
+
+// A name for each column: some promise a record and some do not, so that one function for all would promise less.
 
 pub fn size_of(scratch: &[u8], r: usize) -> usize {
     hint(scratch, Column::Size, r) % EMPTY
@@ -72,6 +75,7 @@ pub fn root_of(scratch: &[u8], r: usize) -> usize {
 }
 
 // The record of its parent; 0, which is no parent's, for the last record of a body.
+// 0 and not an Option: a hint is one cell, and the columns fill the table to its last cell.
 pub fn parent_of(scratch: &[u8], r: usize) -> usize
     ensures { result < records }
 {
@@ -189,6 +193,7 @@ fn order(node: Node, r: usize, scratch: &mut [u8])
 }
 
 // The places of all records, from the last to the first.
+// Not one loop with `sizes`: they go in opposite directions, and what is left in common is the range.
 pub fn orders(rule: &Rule, links: &Links, scratch: &mut [u8])
     ensures { Kept scratch.old scratch.new }
 {
@@ -260,6 +265,7 @@ fn put_before(node: Node, r: usize, scratch: &mut [u8])
 }
 
 // What may come before the records of the body of root b.
+// Not one loop with `lasts`: they go in opposite directions, and that one hands the number of steps on.
 pub fn befores(rule: &Rule, links: &Links, b: usize, scratch: &mut [u8])
     ensures { Kept scratch.old scratch.new }
 {

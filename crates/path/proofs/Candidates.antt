@@ -1,4 +1,4 @@
--- The candidates for the next step, told by the arrays and the number table, are the steps that the state offers and
+-- The candidates for the next step, told by the lists and the number table, are the steps that the state offers and
 -- that begin a shortest way from it.
 use Prim.Native.Nat.{ℕ, ◌-◌, ◌<◌, ◌≤◌}
 use mathlib.Core.Path.{◌≡◌, sym, subst, ◌∙◌}

@@ -1,5 +1,5 @@
--- Which records the walk may enter where it stands, told by the arrays, is where the free moves of its state lead.
--- A stand is the beginning of the rule, or a record whose expression is finished.
+-- Which records the walk may enter where it stands, told by the lists, is where the free moves of its state lead.
+-- The walk stands at the beginning of the rule, or after a record whose expression is finished.
 use Prim.Native.Nat.{ℕ, ◌+◌, ◌-◌, ◌<◌}
 use mathlib.Core.Path.{◌≡◌, refl, sym, ap, subst, ◌∙◌}
 use mathlib.Core.Logic.{⊎_elim}

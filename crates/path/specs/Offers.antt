@@ -6,21 +6,15 @@ use Rattle.meaning.specs.Expression.{Rec, starring}
 use Rattle.meaning.specs.Fewest.{Goal}
 use Rattle.records.specs.declared.Label.{Label}
 use Rattle.records.specs.declared.Label.TheVariants.{Any, Term, Test}
-use Rattle.records.specs.Sites.{site_of}
 use Rattle.records.specs.Rules.{labelled}
 use Rattle.fewest.specs.declared.look.Moved.{Moved}
-use Rattle.fewest.specs.declared.task.Task.{Task}
 use Rattle.fewest.specs.Frame.{Frame, frame}
 use Rattle.fewest.specs.Offer.{Continues}
-use Rattle.fewest.specs.Work.{goal_of, allowing}
+use Rattle.fewest.specs.Work.{allowing}
 use Rattle.path.specs.declared.Taken.{Taken}
 use Rattle.fewest.specs.Tells.{Tells}
 use Rattle.path.specs.Pick.{Carries, NoLater}
 use Rattle.path.specs.Flags.{Open}
-
--- what a walk is about: the task's site, its links and its goal
-abbrev pub frame_of : Task → Frame
-frame_of x = frame (site_of x.site.bytes.now x.site.triples) x.ahead.links.now.up x.ahead.links.now.role (goal_of x.ahead.goal)
 
 -- once record r's expression is finished at u, d more steps are left at the least
 pub record Leaves (F : Frame) (T : List ℕ) (r u d : ℕ) : Type 0 where

@@ -8,9 +8,9 @@ ghost use Rattle.records.specs.Rules.{axis_of, axis_meant, records_of};
 ghost use Rattle.fewest.specs.Pairs.{pairs};
 ghost use Rattle.fewest.specs.Frame.{frame};
 ghost use Rattle.fewest.specs.Work.{goal_of, Tests};
-ghost use Rattle.fewest.specs.Threads.{Threads};
+ghost use Rattle.fewest.specs.Tasks.{framed, ThreadsOf};
 ghost use Rattle.fewest.specs.Tells.{Tells};
-ghost use Rattle.path.specs.Offers.{frame_of, Suited, MayStay, SmallestBy, SmallestOf, SmallestOpen};
+ghost use Rattle.path.specs.Offers.{Suited, MayStay, SmallestBy, SmallestOf, SmallestOpen};
 
 use crate::Taken;
 use fewest::left::left;
@@ -86,13 +86,14 @@ fn by_thread(
     t: usize,
     d: usize,
 ) -> Option<Taken>
-    requires { Threads task.now.site.bytes.now task.now.site.triples scratch.now × (r < records) × Tests label r × (t < terms) }
-    ensures { SmallestBy (frame_of task.now) (pairs numbers.now) (axis_of axis) label t d r result }
+    requires { ThreadsOf task.now scratch.now × (r < records) × Tests label r × (t < terms) }
+    ensures { SmallestBy (framed task.now) (pairs numbers.now) (axis_of axis) label t d r result }
 {
     let site = &task.site;
     let parts = parts_of(axis);
     let by = next_by(axis);
     let mut k = first_from(scratch, axis, t);
+    // The loop of every walk along a thread: two of the four write the table that they walk, so no iterator would serve them all.
     while k < site.triples {
         let m = move_at(site, k, parts);
         let to = m.to;
@@ -115,8 +116,8 @@ fn by_step(
     t: usize,
     d: usize,
 ) -> Option<Taken>
-    requires { Threads task.now.site.bytes.now task.now.site.triples scratch.now × (r < records) × Tests step.label r × (t < terms) × Tells (Voc (site_of task.now.site.bytes.now task.now.site.triples) t) word }
-    ensures { SmallestBy (frame_of task.now) (pairs numbers.now) (axis_meant step.axis) step.label t d r result }
+    requires { ThreadsOf task.now scratch.now × (r < records) × Tests step.label r × (t < terms) × Tells (Voc (site_of task.now.site.bytes.now task.now.site.triples) t) word }
+    ensures { SmallestBy (framed task.now) (pairs numbers.now) (axis_meant step.axis) step.label t d r result }
 {
     match step.axis {
         None => by_self(&task.ahead, numbers, step.label, word, r, t, d),
@@ -135,8 +136,8 @@ fn of_record(
     t: usize,
     d: usize,
 ) -> Option<Taken>
-    requires { Threads task.now.site.bytes.now task.now.site.triples scratch.now × (r < task.now.rule.count) × (t < terms) × Tells (Voc (site_of task.now.site.bytes.now task.now.site.triples) t) word }
-    ensures { SmallestOf (frame_of task.now) (pairs numbers.now) (records_of task.now.rule.bytes.now) shut.now t d r result }
+    requires { ThreadsOf task.now scratch.now × (r < task.now.rule.count) × (t < terms) × Tells (Voc (site_of task.now.site.bytes.now task.now.site.triples) t) word }
+    ensures { SmallestOf (framed task.now) (pairs numbers.now) (records_of task.now.rule.bytes.now) shut.now t d r result }
 {
     if shut[r] {
         return None;
@@ -157,8 +158,8 @@ pub fn choose(
     t: usize,
     d: usize,
 ) -> Option<Taken>
-    requires { Threads task.now.site.bytes.now task.now.site.triples scratch.now × (t < terms) × Tells (Voc (site_of task.now.site.bytes.now task.now.site.triples) t) word }
-    ensures { SmallestOpen (frame_of task.now) (pairs numbers.now) (records_of task.now.rule.bytes.now) shut.now t d result }
+    requires { ThreadsOf task.now scratch.now × (t < terms) × Tells (Voc (site_of task.now.site.bytes.now task.now.site.triples) t) word }
+    ensures { SmallestOpen (framed task.now) (pairs numbers.now) (records_of task.now.rule.bytes.now) shut.now t d result }
 {
     for r in 0..task.rule.count {
         let found = of_record(task, scratch, numbers, shut, word, r, t, d);

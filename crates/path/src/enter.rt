@@ -33,6 +33,7 @@ fn follow(links: &Links, shut: &mut [bool; RECORDS], r: usize, was: bool) -> boo
 {
     let mut changed = was;
     let mut at = r;
+    // No iterator: three of the four roles end the walk, two of them with a mark, so that a fold would keep this match and a flag.
     loop {
         let above = links.above(at);
         match links.role(at) {
@@ -119,6 +120,7 @@ fn sweep(
     ensures { SweptOpen links.now.up links.now.role (records_of rule.now.bytes.now) links.now.first word after shut.old shut.new result }
 {
     let mut changed = begin(rule.count, links, after, shut);
+    // The flag is handed through: what is promised (`Led`) says it of this record and of what was changed before.
     for r in (0..rule.count).rev() {
         changed = lead(rule, links, word, r, shut, changed);
     }

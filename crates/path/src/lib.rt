@@ -9,10 +9,9 @@ ghost use Rattle.std.specs.Prelude.{◌<◌};
 ghost use Rattle.meaning.specs.Limits.{terms};
 ghost use Rattle.records.specs.Rules.{records_of};
 ghost use Rattle.fewest.specs.Pairs.{pairs};
-ghost use Rattle.fewest.specs.Threads.{Threads};
+ghost use Rattle.fewest.specs.Tasks.{framed, ThreadsOf};
 ghost use Rattle.path.specs.Pick.{Picked};
 ghost use Rattle.path.specs.Flags.{Placed};
-ghost use Rattle.path.specs.Offers.{frame_of};
 
 use choose::choose;
 use enter::enter;
@@ -22,6 +21,7 @@ use fewest::word::word;
 use records::RECORDS;
 
 // One step of a path: its record, its triple (none for self) and the term reached.
+// `over` is no Option: document 01's triple of a self step is 65,535, and the room takes that number.
 #[derive(Clone, Copy)]
 pub struct Taken {
     pub by: usize,
@@ -39,8 +39,8 @@ pub fn next_step(
     t: usize,
     d: usize,
 ) -> Option<Taken>
-    requires { Threads task.now.site.bytes.now task.now.site.triples scratch.now × (t < terms) × Placed after }
-    ensures { Picked (frame_of task.now) (pairs numbers.now) (records_of task.now.rule.bytes.now) task.now.ahead.links.now.first after t d result }
+    requires { ThreadsOf task.now scratch.now × (t < terms) × Placed after }
+    ensures { Picked (framed task.now) (pairs numbers.now) (records_of task.now.rule.bytes.now) task.now.ahead.links.now.first after t d result }
 {
     let here = word(scratch, task.site.triples, t);
     let mut shut = [true; RECORDS];

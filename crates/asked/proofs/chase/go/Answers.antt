@@ -23,7 +23,7 @@ pursue-requires g c =
     let (at, _, tests) = c.requires in
     let good = c.args.task.now.site.accepted in
     let are = part_terms c.args.axis good c.parts_of-parts.ensures c.loop-k-test.true in
-    (seen_bits c.args.axis good at.bits c.loop-k.invariant.0, at.row, rw c.label.ensures tests, rw c.term_at-middle.ensures are.middle, rw c.term_at-to.ensures are.to)
+    ((seen_bits c.args.axis good at.bits c.loop-k.invariant.0).0, at.row, rw c.label.ensures tests, rw c.term_at-middle.ensures are.middle, rw c.term_at-to.ensures are.to)
 
 pub loop-k-preserved : goal.loop-k-preserved
 loop-k-preserved g c =

@@ -1,4 +1,4 @@
--- `asked::count::count` meets its contract: the parts passed are counted, then the rest behind them.
+-- `asked::count::count` meets its contract: the parts passed are counted.
 use Prim.Native.Nat.{◌+◌}
 use mathlib.Core.Path.{◌≡◌}
 use Rattle.fewest.specs.Sweep.{sum}

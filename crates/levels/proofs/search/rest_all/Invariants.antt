@@ -3,7 +3,7 @@ use Rattle.meaning.specs.Move.{self}
 use Rattle.fewest.specs.Pairs.{pairs}
 use Rattle.fewest.specs.Offer.{Lowers}
 use Rattle.fewest.specs.Work.{work_of}
-use Rattle.levels.specs.Levelled.{framed}
+use Rattle.fewest.specs.Tasks.{framed}
 use Rattle.levels.proofs.search.rest_all.Given as goal
 
 abbrev pub invariant-loop-t : goal.invariant-loop-t
