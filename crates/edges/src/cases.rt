@@ -4,7 +4,6 @@ ghost use Rattle.std.specs.Prelude.{◌≤◌, ◌<◌, length};
 
 use crate::show;
 use records::TRIPLES;
-use records::bytes::BASE;
 use records::site::{TRIPLE_KIND, TRIPLE_WIDTH};
 use std::io;
 
@@ -27,8 +26,7 @@ pub fn run<P: Print>(rt: &P, input: &[u8]) -> io::Result<()> {
 // Fills the room with triples, the ascending (k / 256, k % 256, 0).
 fn fill(room: &mut [u8]) {
     for (k, triple) in room.chunks_exact_mut(TRIPLE_WIDTH).enumerate() {
-        let subject = (k / BASE % BASE) as u8;
-        let predicate = (k % BASE) as u8;
+        let [.., subject, predicate] = k.to_be_bytes();
         triple.copy_from_slice(&[TRIPLE_KIND, 0, subject, 0, predicate, 0, 0]);
     }
 }
@@ -67,7 +65,7 @@ fn decode(text: &[u8], room: &mut [u8]) -> usize
     letters.len().min(room.len())
 }
 
-// The value of a hex digit in lower case.
+// The value of a hex digit in lower case. The file of cases has no other letters, so there is no Option as of to_digit.
 fn digit(letter: u8) -> u8
     ensures { result < 16 }
 {

@@ -13,7 +13,7 @@ mod show; // show.rt: a case, run and written
 // The most bytes of input that are read.
 const INPUT: usize = 65536;
 
-// Reads until the buffer is full, the input ends or a read fails, and answers how many bytes came.
+// Reads until the buffer is full, the input ends or a read fails, and answers how many bytes came: read_to_end would need a heap.
 fn read_full<R: Read>(from: &mut R, buffer: &mut [u8]) -> usize
     ensures { result ≤ length buffer.new }
 {

@@ -1,5 +1,5 @@
 -- The links of a rule, from the last record to the first: what is stored for one subexpression spoils no other's, since a record
--- number names one, and it has its own before its operands take it over. `Linking` is the invariant of the loop of `link`.
+-- number names one, and it has its own before its operands take it over. `LinkingOf` is the invariant of the loop of `link`.
 use Prim.Native.Nat.{ℕ, ◌+◌, ◌-◌, ◌≤◌, ◌<◌}
 use mathlib.Core.Path.{◌≡◌, refl, sym, ap, subst, ◌∙◌}
 use mathlib.Core.Logic.{◌⊎◌, inl, inr, ⊎_elim, ◌≢◌}

@@ -10,9 +10,11 @@ use lib.Dec.{ltb}
 use borrow.Author.Tests.{ltb-true, ltb-false}
 use Rattle.meaning.specs.Site.{Triple, Site, triple, Voc}
 use Rattle.records.specs.Sites.{site_of}
+use Rattle.records.specs.declared.Axis.{Axis as CodeAxis}
 use Rattle.records.specs.declared.Axis.TheVariants as code
+use Rattle.records.specs.Rules.{axis_of}
 use Rattle.records.proofs.Sites.{length-site_of}
-use Rattle.fewest.specs.Threads.{FirstWith, start_by}
+use Rattle.fewest.specs.Threads.{FirstWith, start_along, start_by}
 use Rattle.fewest.specs.Tells.{Tells, holds, fails}
 use Rattle.fewest.specs.Words.{StandsAs}
 use Rattle.fewest.proofs.Tells.{told, told_not}
@@ -36,21 +38,21 @@ thread_tells key b {n} {t} {first} found = go (ltb first n) refl
         let least = found.least k zero-le below (sym same) in
         omega arith
 
--- Next starts at the subject, and its inverse at the object.
-pub subject_tells : (b : List ℕ) {n t first : ℕ} → FirstWith (start_by code.Next (site_of b n)) n t 0 first →
-    Tells (StandsAs (λ x. x.subject) (site_of b n) t) (ltb first n)
-subject_tells b = thread_tells (λ x. x.subject) b
+-- So it does by where an axis starts.
+pub start_tells : (axis : CodeAxis) (b : List ℕ) {n t first : ℕ} → FirstWith (start_by axis (site_of b n)) n t 0 first →
+    Tells (StandsAs (start_along (axis_of axis)) (site_of b n) t) (ltb first n)
+start_tells axis b = thread_tells (start_along (axis_of axis)) b
 
-pub object_tells : (b : List ℕ) {n t first : ℕ} → FirstWith (start_by code.NextInverse (site_of b n)) n t 0 first →
-    Tells (StandsAs (λ x. x.object) (site_of b n) t) (ltb first n)
-object_tells b = thread_tells (λ x. x.object) b
+-- Some triple starts at the term along this axis, or none does.
+abbrev Starting : CodeAxis → Site → ℕ → Bool → Type 0
+Starting axis s t = Tells (StandsAs (start_along (axis_of axis)) s t)
 
--- A word is a subject or an object.
-module _ {s : Site} {t : ℕ} {first : Bool} (tells : Tells (StandsAs (λ x. x.subject) s t) first) where
+-- A word is a subject, where next starts, or an object, where its inverse does.
+module _ {s : Site} {t : ℕ} {first : Bool} (tells : Starting code.Next s t first) where
   pub word_subject : first ≡ true → Tells (Voc s t) first
   word_subject e = let x = told tells e in rw e (holds (record { number = x.number; below = x.below; stands = inl x.stands }))
 
-  pub word_object : {second : Bool} → first ≡ false → Tells (StandsAs (λ x. x.object) s t) second → Tells (Voc s t) second
+  pub word_object : {second : Bool} → first ≡ false → Starting code.NextInverse s t second → Tells (Voc s t) second
   word_object e (holds x) = holds (record { number = x.number; below = x.below; stands = inr x.stands })
   word_object e (fails n) = fails λ v.
       ⊎_elim (λ q. told_not tells e (record { number = v.number; below = v.below; stands = q }))

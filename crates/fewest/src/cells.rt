@@ -1,4 +1,4 @@
-// Scratch in the lent byte table: cells of two bytes, low byte first, which the compiler reads at once.
+// Scratch in the lent byte table: cells of two bytes, low byte first, as the machine has them, so that one is read at once.
 // The values are the list `cells` of the bytes. Past the end a cell reads 0 and takes no set.
 ghost use Rattle.std.specs.Prelude.{◌≡◌, ◌+◌, ◌<◌, ◌≤◌, length, get_or, set};
 ghost use Rattle.fewest.specs.Cells.{values, cells};

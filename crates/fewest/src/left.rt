@@ -1,5 +1,5 @@
 // What is left once a record's expression is finished at a term: the least of the numbers that may follow.
-ghost use Rattle.std.specs.Prelude.{◌≡◌, ◌<◌, min};
+ghost use Rattle.std.specs.Prelude.{◌≡◌, ◌<◌};
 ghost use Rattle.meaning.specs.Limits.{terms, records};
 ghost use Rattle.meaning.specs.Left.{home_left};
 ghost use Rattle.fewest.specs.Pairs.{pairs};
@@ -11,13 +11,7 @@ use crate::table::{NUMBERS, number};
 use crate::task::Ahead;
 use records::NONE;
 
-fn least(a: usize, b: usize) -> usize
-    ensures { result ≡ min a b }
-{
-    if a < b { a } else { b }
-}
-
-// At the rule's own finish nothing is left where the goal allows the term.
+// At the rule's own finish nothing is left where the goal allows the term. Elsewhere it is NONE, as the table itself has it.
 fn home(goal: Goal, u: usize) -> usize
     ensures { result ≡ home_left (goal_of goal) u }
 {
@@ -38,11 +32,11 @@ pub fn left(ahead: &Ahead, numbers: &[u8; NUMBERS], r: usize, u: usize) -> usize
     loop {
         let above = ahead.links.above(at);
         match ahead.links.role(at) {
-            Role::Whole => return least(best, home(ahead.goal, u)),
+            Role::Whole => return best.min(home(ahead.goal, u)),
             Role::Test => return 0,
-            Role::First => return least(best, number(numbers, above - 1, u)),
+            Role::First => return best.min(number(numbers, above - 1, u)),
             Role::Round => {
-                best = least(best, number(numbers, above - 1, u));
+                best = best.min(number(numbers, above - 1, u));
                 at = above;
             }
         }

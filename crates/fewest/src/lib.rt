@@ -15,7 +15,7 @@ pub mod word; // word.rt: whether a term is in the vocabulary
 pub mod sweep; // sweep.rt: sweeps over the table, until one changes nothing
 pub mod starts; // starts.rt: the starts, read off the table
 
-// Where the rule's own body may finish.
+// Where the rule's own body may finish: no Option, since the meaning has this word, and names for its two cases.
 #[derive(Clone, Copy)]
 pub enum Goal {
     End(usize),

@@ -22,7 +22,8 @@ pub enum Role {
     Round,
 }
 
-// One record's: its role and the record below which it has it, 0 for the whole rule; where it is a join, its first operand.
+// One record's: its role and the record below which it has it, 0 for the whole rule; where it is a join, its first operand, else 0.
+// No Options: the lists of specs/Frame have these numbers, and nothing stands below record 0.
 #[derive(Clone, Copy)]
 struct Entry {
     up: u8,

@@ -18,7 +18,7 @@ pub struct Moved {
     pub to: usize,
 }
 
-// Where the terms stand in a triple's record, as an axis takes them.
+// Where the terms stand in a triple's record, as an axis takes them: a type of its own, so that places and terms are not mixed up.
 #[derive(Clone, Copy)]
 pub struct Parts {
     pub from: usize,
@@ -115,7 +115,7 @@ pub fn look(
 }
 
 // Staying at a term t for record r: a star's empty round at no cost, a self step at the cost of one. It leads to the finish with no less
-// than its cost.
+// than its cost, which is a number since it is compared and added.
 pub fn rest(
     ahead: &Ahead,
     numbers: &mut [u8; NUMBERS],

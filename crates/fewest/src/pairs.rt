@@ -1,13 +1,7 @@
-// Numbers as byte pairs, high byte first, in a lent table. Everything above is said of the list of numbers.
+// Numbers as byte pairs in a lent table, high byte first as its lender reads them. Everything above is said of the list of numbers.
 ghost use Rattle.std.specs.Prelude.{◌≡◌, ◌+◌, ◌*◌, ◌<◌, length, get_or, set};
 ghost use Rattle.records.specs.Bytes.{base};
 ghost use Rattle.fewest.specs.Pairs.{pairs};
-
-pub fn wide(x: u8) -> usize
-    ensures { (result ≡ x) × (result < base) }
-{
-    usize::from(x)
-}
 
 pub fn get(table: &[u8], i: usize) -> usize
     requires { i + i + 1 < length table.now }

@@ -1,6 +1,6 @@
 // Looks that store nothing, before the sweeps that do: whole rows against each other, many bytes at once, and the triples of a step
 // against one row that bounds what is left after it. Where such a look finds nothing lower, a sweep has nothing to do.
-ghost use Rattle.std.specs.Prelude.{◌≡◌, true, false, ◌+◌, ◌<◌, ◌≤◌, IfSome};
+ghost use Rattle.std.specs.Prelude.{◌≡◌, true, false, ◌<◌, IfSome};
 ghost use Rattle.meaning.specs.Limits.{records};
 ghost use Rattle.fewest.specs.Pairs.{pairs};
 ghost use Rattle.fewest.specs.Work.{goal_of, Tests, Axial};
@@ -16,26 +16,6 @@ use records::{Axis, Label, TERMS};
 // The bytes of a row.
 const ROW: usize = TERMS + TERMS;
 
-// The greater of two.
-pub fn greater(a: u8, b: u8) -> u8
-    ensures { (a ≤ result) × (b ≤ result) }
-{
-    if a < b {
-        return b;
-    }
-    a
-}
-
-// By how much a byte is above another, or 0.
-fn excess(a: u8, b: u8) -> u8
-    ensures { a ≤ b + result }
-{
-    if b < a {
-        return a - b;
-    }
-    0
-}
-
 // Whether a byte of row b is above the one of row a at its place; if none is, no number is.
 pub fn above(numbers: &[u8; NUMBERS], b: usize, a: usize) -> bool
     requires { (b < records) × (a < records) }
@@ -43,9 +23,9 @@ pub fn above(numbers: &[u8; NUMBERS], b: usize, a: usize) -> bool
 {
     let at = b * ROW;
     let from = a * ROW;
-    let mut most = 0;
+    let mut most: u8 = 0;
     for i in 0..ROW {
-        most = greater(most, excess(numbers[at + i], numbers[from + i]));
+        most = most.max(numbers[at + i].saturating_sub(numbers[from + i]));
     }
     0 < most
 }

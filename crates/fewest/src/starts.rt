@@ -12,7 +12,7 @@ use records::{NONE, TERMS};
 fn bit(v: usize) -> u8
     ensures { result ≡ bit_of v }
 {
-    if v < NONE { 1 } else { 0 }
+    u8::from(v < NONE)
 }
 
 // 1 at each term at which row r has a number, 0 elsewhere.

@@ -79,6 +79,7 @@ pub fn sweep_axis(
 }
 
 // Each triple of one thread, for the step of record r with this axis and label. The others are known to offer nothing lower.
+// No iterator: the threads of levels and questions stand in a table that their walk writes, and all threads are walked in one form.
 pub fn sweep_thread(
     site: &Site,
     scratch: &[u8],

@@ -21,7 +21,7 @@ pub fn entry(r: usize, t: usize) -> usize
     r * TERMS + t
 }
 
-// The entry of record r at term t.
+// The entry of record r at term t: a number of steps or NONE, the table's own number, which compares above them all.
 pub fn number(numbers: &[u8; NUMBERS], r: usize, t: usize) -> usize
     requires { (r < records) × (t < terms) }
     ensures { (result ≡ view (pairs numbers.now) r t) × (result ≤ none) }

@@ -1,5 +1,5 @@
-// What the loops over the tables go by: a site that was accepted, a rule that was checked, and what is ahead once a record's
-// expression is finished. Each says of its parts what every function here stands on.
+// What the loops over the tables go by: a site that was accepted, a rule, and what is ahead once a record's expression is finished.
+// Each says of its parts what every function here stands on; that the rule was checked is the task's fact.
 ghost use Rattle.meaning.specs.Limits.{records};
 ghost use Rattle.records.specs.Sites.{Accepted};
 ghost use Rattle.fewest.specs.Frame.{Climbs};

@@ -78,7 +78,8 @@ fn firsts_by(axis: Axis) -> usize
     }
 }
 
-// The first triple by which an axis leads from t, and the first by which it leads to t.
+// The first triple by which an axis leads from t, and the first by which it leads to t. No Options: a cell of
+// scratch is not trusted, so what it names is compared with how many triples there are anyway.
 pub fn first_from(scratch: &[u8], axis: Axis, t: usize) -> usize
     ensures { ThreadFirst scratch.now axis t result }
 {
@@ -115,7 +116,8 @@ pub fn next_by(axis: Axis) -> Option<usize>
     }
 }
 
-// The next triple after k that leads from t, by where the next ones stand; as many as there are triples where there is none.
+// The next triple after k that leads from t, by where the next ones stand; as many as there are triples where there is none:
+// the same test ends a thread that its first cell ends.
 pub fn next_from(site: &Site, scratch: &[u8], by: Option<usize>, t: usize, k: usize) -> usize
     requires { (k < site.now.triples) × IfSome by (λ i. i ≤ object_next) }
     ensures { ThreadNext site.now.bytes.now site.now.triples scratch.now by t k result }
@@ -150,6 +152,7 @@ fn same_subject(site: &Site, t: usize, k: usize) -> usize
 }
 
 // A triple that has the term as subject or object; the greatest value of a cell where the term is outside the vocabulary.
+// No Option: it is compared with how many triples there are before it is used.
 pub fn witness(scratch: &[u8], t: usize) -> usize {
     let k = cell(scratch, FIRST_SUBJECT + t % TERMS);
     if k < CELL - 1 {

@@ -2,7 +2,7 @@
 // It reads and writes; what it writes is `printed::print::print` of what it read.
 #![tactic(auto)]
 
-ghost use Rattle.std.specs.Prelude.{◌≤◌, length, IfOk};
+ghost use Rattle.std.specs.Prelude.{◌≡◌, ◌≤◌, length, take, IfOk};
 
 use printed::print::print;
 use printed::split::INPUT_MOST;
@@ -14,7 +14,8 @@ const READ_MOST: usize = INPUT_MOST + 1;
 
 // Reads until the buffer is full or the input ends, and answers how many bytes came.
 fn read_input<R: Read>(from: &mut R, buffer: &mut [u8]) -> io::Result<usize>
-    ensures { IfOk result (λ count. count ≤ length buffer.new) }
+    ensures within { IfOk result (λ count. count ≤ length buffer.new) }
+    ensures taken { IfOk result (λ count. count ≡ length (take count buffer.new)) }
 {
     let mut done = 0;
     while done < buffer.len() {

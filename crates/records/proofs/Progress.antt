@@ -52,7 +52,7 @@ progress_more {s} {starts} {at} {count} {height} {on} {r} p e =
     }
 
 -- A rule that is refused is checked.
-refused_checked : {s : List ℕ} {f : Refusal} → RuleChecked s (Err f) → CheckedRule s (Err f)
+pub refused_checked : {s : List ℕ} {f : Refusal} → RuleChecked s (Err f) → CheckedRule s (Err f)
 refused_checked p = record { answer = p; starts = tt }
 
 -- The end: one expression is left,

@@ -1,5 +1,5 @@
 -- What a site reader hands out is determined; after the end or a refusal it is the same again; and its place tells how many triples it has read.
--- Nothing else goes by the cases of `onward`.
+-- `Begun` goes by the cases of `onward` too, and nothing else does.
 use Prim.Native.Nat.{ℕ, ◌+◌, ◌*◌}
 use native.Mathlib.Omega.{arith}
 use mathlib.Core.Path.{◌≡◌, refl, sym, ◌∙◌, ap}

@@ -18,7 +18,7 @@ pub fn byte_at(s: &[u8], at: usize) -> usize
     requires { at < length s.now }
     ensures { (result ≡ get_or s.now at 0) × (result < base) }
 {
-    s[at] as usize
+    usize::from(s[at])
 }
 
 // The byte that stands `by` bytes after a place; 0 past the end.
@@ -28,7 +28,7 @@ pub fn byte_after(s: &[u8], at: usize, by: usize) -> usize
     if s.len() <= at || s.len() - at <= by {
         return 0;
     }
-    s[at + by] as usize
+    usize::from(s[at + by])
 }
 
 // The two bytes at a place, high byte first.
@@ -37,7 +37,7 @@ pub fn number_at(s: &[u8], at: usize) -> usize
     requires { at + 1 < length s.now }
     ensures { result ≡ number16 s.now at }
 {
-    u16::from_be_bytes([s[at], s[at + 1]]) as usize
+    usize::from(u16::from_be_bytes([s[at], s[at + 1]]))
 }
 
 // The eight bytes at a place, high byte first.

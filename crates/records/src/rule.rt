@@ -21,6 +21,7 @@ pub struct RuleRead {
 
 // How many bytes a record of this kind has, its kind included; 0 where there is no such kind. Each kind has an arm of its own: so
 // the compiled rule reader takes fewer instructions than with kinds of one length in one arm.
+// Kinds stay document 01's own numbers, read once; a length is no Option, since what follows a record is worked out with it.
 #[tactic(auto, unfolding(crate::specs::Rules::length_of))]
 fn length_of(kind: usize) -> usize
     ensures { result ≡ length_of kind }
@@ -38,7 +39,7 @@ fn length_of(kind: usize) -> usize
 
 // The axis with this number, none for self. Of a number that no axis has it is some axis.
 #[tactic(auto, unfolding(crate::specs::Rules::axis_coded))]
-fn axis_numbered(number: usize) -> Option<Axis>
+fn axis_coded(number: usize) -> Option<Axis>
     ensures { result ≡ axis_coded number }
 {
     match number {
@@ -58,7 +59,7 @@ fn record_at(rule: &[u8], at: usize) -> Record
     ensures { result ≡ record_at rule.now at }
 {
     let kind = byte_after(rule, at, 0);
-    let axis = axis_numbered(byte_after(rule, at, 1));
+    let axis = axis_coded(byte_after(rule, at, 1));
     match kind {
         1 => Record::Step(Step {
             axis,
@@ -87,7 +88,7 @@ pub fn record_of(rule: &[u8], starts: &[u8; RECORDS], r: usize) -> Record
     record_at(rule, byte_at(starts, r))
 }
 
-// The number of the axis of the record at this place; 0 where its kind has none.
+// The number of the axis of the record at this place; 0 where its kind has none. A refusal goes by it, before there is an axis.
 #[tactic(auto, unfolding(crate::specs::Rules::axis_at))]
 fn axis_at(rule: &[u8], at: usize) -> usize
     ensures { result ≡ axis_at rule.now at }
@@ -98,7 +99,7 @@ fn axis_at(rule: &[u8], at: usize) -> usize
     }
 }
 
-// The named term of a step; 0 for other records.
+// The named term of a step; 0 for other records. A refusal goes by the number, as that of an axis does.
 fn term_of(rec: Record) -> usize
     ensures { result ≡ term_of rec }
 {
@@ -171,7 +172,7 @@ pub fn rule_record(
     if RECORDS <= count {
         return Err(Reason::RuleLong.at(at));
     }
-    let length = length_of(*kind as usize);
+    let length = length_of(usize::from(*kind));
     if length == 0 {
         return Err(Reason::RuleKind.at(at));
     }
@@ -211,6 +212,7 @@ pub fn check_rule(rule: &[u8]) -> Result<RuleRead, Refusal>
 }
 
 // The record that stands inside all those, from `last` down, which take one operand: it ends just before the least of them.
+// A `for` over a reversed range would need an end, and a value for reaching it, which a checked rule never does.
 fn inner_record(rule: &[u8], starts: &[u8; RECORDS], last: usize) -> usize
     requires front { Front (starts_of rule.now) starts.now }
     requires ends { Ends (records_of rule.now) last }

@@ -153,10 +153,10 @@ pub fn read_at(site: &[u8], at: usize) -> Handed
 fn is_plain(eight: usize, before: usize) -> bool
     ensures { result ≡ true → Plain eight × (before < eight) }
 {
-    eight % BASE == TRIPLE_KIND as usize
+    eight % BASE == usize::from(TRIPLE_KIND)
         && eight / TWO_BYTES % BASE == 0
         && eight / FOUR_BYTES % BASE == 0
-        && eight / FOUR_BYTES / TWO_BYTES == TRIPLE_KIND as usize * BASE
+        && eight / FOUR_BYTES / TWO_BYTES == usize::from(TRIPLE_KIND) * BASE
         && before < eight
 }
 
@@ -171,6 +171,7 @@ fn last_place(site: &[u8]) -> usize
 }
 
 // The place up to which every record is plainly sound; the last is left to the reader.
+// No `for` by step_by: it would work out again where it stopped, with one test more each turn.
 fn plain_until(site: &[u8]) -> usize
     ensures { Begun site.now result }
 {

@@ -39,9 +39,9 @@ loop-i-preserved c =
     let N = c.args.numbers.now in
     let b = c.args.b in
     let a = c.args.a in
-    let (most, more) = c.greater-most.ensures in
-    let by = c.excess.ensures in
-    below_more (λ j. get_or N (b * (terms + terms) + j) 0 ≤ get_or N (a * (terms + terms) + j) 0 + c.greater-most.result) loop.i
+    let most = c.max-most.ensures in
+    let by = c.saturating_sub.ensures in
+    below_more (λ j. get_or N (b * (terms + terms) + j) 0 ≤ get_or N (a * (terms + terms) + j) 0 + c.max-most.result) loop.i
     (λ j h. let l = loop.invariant j h in omega arith) (omega arith)
 
 pub returns : goal.returns

@@ -2,9 +2,9 @@
 use Rattle.fewest.proofs.Words.{word_subject, word_object}
 use Rattle.fewest.proofs.word.word.Goals as goal
 
-pub returns-then-is_subject : goal.returns-then-is_subject
-returns-then-is_subject c = λ s threads h. word_subject (c.is_subject.ensures s threads h) c.if-is_subject.true
+pub returns-then-starts_along : goal.returns-then-starts_along
+returns-then-starts_along c = λ s threads h. word_subject (c.starts_along.ensures s threads h) c.if-starts_along.true
 
-pub returns-else-is_subject : goal.returns-else-is_subject
-returns-else-is_subject c = λ s threads h.
-    word_object (c.is_subject.ensures s threads h) c.if-is_subject.false (c.is_object.ensures s threads h)
+pub returns-else-starts_along : goal.returns-else-starts_along
+returns-else-starts_along c = λ s threads h.
+    word_object (c.starts_along.ensures s threads h) c.if-starts_along.false (c.starts_along-else-starts_along.ensures s threads h)
