@@ -1,5 +1,5 @@
 -- What the functions inside the calls promise to one another. No caller of ours sees these.
--- Admission is told in the order of document 01; the rest of a call stands on a query that is in order, which keeps `Given`.
+-- Admission is told in the order of document 01; the rest of a call stands on a query that is in order, which keeps `Read`.
 use Rattle.std.specs.Prelude.{ℕ, ◌+◌, ◌*◌, ◌<◌, ◌≤◌, ◌-◌, ◌≡◌, true, false, cond, List, length, replicate, eqb, ltb, Result, Ok, Err}
 use Rattle.meaning.specs.Limits.{terms, records, none}
 use Rattle.meaning.specs.Fewest.{Goal, anywhere, end}

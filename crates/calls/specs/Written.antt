@@ -1,5 +1,5 @@
 -- What the writers promise, in either form: the path shown fills the front of the room, and the rest keeps its contents
--- (document 01, "Lent tables"). And what of a table of numbers is one row.
+-- (document 01, "Lent tables").
 use Rattle.std.specs.Prelude.{ℕ, ◌+◌, ◌*◌, ◌<◌, ◌≤◌, ◌≡◌, List, ◌++◌, length, get_or, take, drop, set}
 use Rattle.meaning.specs.Limits.{terms, none}
 use Rattle.meaning.specs.Site.{Site}

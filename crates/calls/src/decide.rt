@@ -40,6 +40,7 @@ fn show<C: Lent>(
     requires { TaskOf query.now (Goal.End query.now.end) task.now × NumberedFor task.now numbers.now × ThreadsOf task.now scratch.now × Holds C.form most (C.entries room.old) }
     ensures { DisplayedFor C.form task.now numbers.now query.now.start most (C.entries room.old) (C.entries room.new) result }
 {
+    // NONE is the table's own number for no way.
     let steps = number(numbers, query.count - 1, query.start);
     if steps != NONE && steps <= most {
         write(task, scratch, numbers, query.start, steps, room);

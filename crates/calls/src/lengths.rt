@@ -12,7 +12,7 @@ pub(crate) const WRONG_LENGTH: Refusal = Refusal {
     place: 0,
 };
 
-// Whether the lent tables have their lengths; those of the numbers, and of the third table or the room, are given.
+// A test, which each call turns into its refusal. Whether the lent tables have their lengths; those of the numbers, and of the third table or the room, are given.
 pub fn fit(asked: usize, numbers: usize, third: usize, long: usize, wide: usize) -> bool
     ensures { Tells ((asked ≡ records * terms) × (numbers ≡ long) × (third ≡ wide)) result }
 {

@@ -7,7 +7,7 @@ pub mod lengths; // lengths.rt: the lengths of what is lent
 pub mod evaluate; // evaluate.rt: both tables
 pub mod room; // room.rt: what a room is lent in
 pub mod write; // write.rt: the path into a room, the numbers out of their bytes
-pub mod decide; // decide.rt: one pair decided, with numbers and room lent as bytes
+pub mod decide; // decide.rt: one pair decided, for either room, and the call on bytes
 pub mod decide_words; // decide_words.rt: the same, with numbers and room lent as 16-bit numbers
 pub mod lists; // lists.rt: all ends
 pub mod origins; // origins.rt: all starts

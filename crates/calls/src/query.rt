@@ -9,7 +9,7 @@ use fewest::links::{Links, link};
 use fewest::task::{Ahead, Rule, Site, Task};
 use records::RECORDS;
 
-// The site, the rule with the places of its records, and the two terms.
+// The site, the rule with the places of its records, and the two terms. `Rule` lends the places; here they are kept, in fixed memory.
 #[derive(Clone, Copy)]
 pub struct Query<'a> {
     pub site: Site<'a>,
@@ -28,14 +28,14 @@ impl<'a> Query<'a> {
     ghost use Rattle.calls.specs.Inner.{TaskOf};
 
     // The links of its rule's records.
-    pub(crate) fn links(&self) -> Links
+    pub fn links(&self) -> Links
         ensures { LinksOf self.now.rule.now self.now.count result }
     {
         link(self.rule, &self.starts, self.count)
     }
 
     // What its tables are worked for, by those links, to a goal.
-    pub(crate) fn task<'b>(&'b self, links: &'b Links, goal: Goal) -> Task<'b>
+    pub fn task<'b>(&'b self, links: &'b Links, goal: Goal) -> Task<'b>
         requires { LinksOf self.now.rule.now self.now.count links.now }
         ensures { TaskOf self.now goal result }
     {

@@ -1,5 +1,5 @@
 // The results for C: one struct a call, without padding, and each outcome of a call laid out in it.
-// A field that an outcome does not use is 0.
+// A field that an outcome does not use is 0. C wants the four structs, their numbers, and `as`, since no usize is a u64 by From.
 ghost use Rattle.std.specs.Prelude.{◌≡◌};
 ghost use Rattle.calls.specs.Values.{decision_values, end_values, start_values, limit_values};
 ghost use Rattle.host.specs.Layout.{decision_of, ends_of, starts_of, ceiling_of};

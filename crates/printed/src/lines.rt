@@ -43,7 +43,7 @@ impl<const MOST: usize> Text<MOST> {
         self.put_field(answer.steps, b'\n');
     }
 
-    // A step's triple; self has none.
+    // A step's triple; self has none, which document 01's room holds as 65,535.
     #[tactic(auto, unfolding(crate::specs::Lines::triple_field, meaning::specs::Limits::none))]
     fn put_triple(&mut self, triple: usize)
         requires { HasRoom (length (triple_field triple)) self.old }

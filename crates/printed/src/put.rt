@@ -3,7 +3,7 @@ ghost use Rattle.std.specs.Prelude.{◌≤◌, length};
 
 use itoa::Buffer;
 
-// A text of at most `MOST` bytes: so many, at the front.
+// A text of at most `MOST` bytes: so many, at the front. No String: `print` cannot fail, and takes no heap.
 #[derive(Clone, Copy)]
 pub struct Text<const MOST: usize> {
     pub bytes: [u8; MOST],

@@ -12,7 +12,7 @@ use std::io::Read;
 // One byte more than an input may have, so that a longer one is seen.
 const READ_MOST: usize = INPUT_MOST + 1;
 
-// Reads until the buffer is full or the input ends, and answers how many bytes came.
+// Reads until the buffer is full or the input ends, and answers how many bytes came: read_exact fails at the end, read_to_end takes a heap.
 fn read_input<R: Read>(from: &mut R, buffer: &mut [u8]) -> io::Result<usize>
     ensures within { IfOk result (λ count. count ≤ length buffer.new) }
     ensures taken { IfOk result (λ count. count ≡ length (take count buffer.new)) }
