@@ -20,7 +20,7 @@ use crate::words::{SIZE, only, word as set_at};
 use fewest::look::parts_of;
 use fewest::table::{ENTRIES, NUMBERS};
 use fewest::task::Task;
-use fewest::threads::{first_from, next_by, next_from};
+use fewest::threads::Walk;
 use fewest::word::word;
 use records::rule::record_of;
 use records::site::term_at;
@@ -86,10 +86,8 @@ fn go<L: Labelled>(
 {
     let site = &task.site;
     let parts = parts_of(axis);
-    let by = next_by(axis);
-    let mut k = first_from(asked, axis, t);
-    // No iterator: `pursue` writes the table that holds the threads, which an iterator would have to borrow.
-    while k < site.triples {
+    let mut walk = Walk::new(asked, axis, t);
+    while let Some(k) = walk.next(site, asked) {
         let middle = term_at(site.bytes, k, parts.middle);
         let to = term_at(site.bytes, k, parts.to);
         pursue(
@@ -103,7 +101,6 @@ fn go<L: Labelled>(
             middle,
             to,
         );
-        k = next_from(site, asked, by, t, k);
     }
 }
 

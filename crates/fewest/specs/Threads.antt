@@ -1,6 +1,6 @@
 -- The triples threaded by their terms, in cells: for each term its first triple, for each triple the next with the same predicate
 -- and object. By subject the next is the triple after. Who goes from the first to the next meets every triple of the term, in order.
-use Rattle.std.specs.Prelude.{ℕ, suc, ◌+◌, ◌<◌, ◌≤◌, ◌≡◌, List, length, get_or, set, Option, Some, None}
+use Rattle.std.specs.Prelude.{ℕ, suc, ◌+◌, ◌<◌, ◌≤◌, ◌≡◌, List, length, get_or, set, Option, Some, None, MatchOption}
 use Rattle.meaning.specs.Limits.{terms, triples}
 use Rattle.meaning.specs.Site.{Triple, Site, triple}
 use Rattle.meaning.specs.Move.{start, finish, middle, Axis, self, ahead, inverse}
@@ -116,6 +116,14 @@ pub record ThreadNext (b : List ℕ) (n : ℕ) (X : List ℕ) (by : Option ℕ) 
 pub record SubjectNext (b : List ℕ) (n t k j : ℕ) : Type 0 where
   pub later : k < j
   pub next : subject_of b n k ≡ t → FirstWith (subject_of b n) n t (suc k) j
+
+-- a walk by an axis from a term: where its next triples stand, and the term
+abbrev pub Along : CodeAxis → ℕ → Option ℕ → ℕ → Type 0
+Along axis t by term = (by ≡ nexts_of axis) × (term ≡ t)
+
+-- a step hands out the triple at which the walk is, of n, and leaves it at the next; or there is none
+abbrev pub Stepped : (b : List ℕ) (n : ℕ) (X : List ℕ) (by : Option ℕ) (t at next : ℕ) → Option ℕ → Type 0
+Stepped b n X by t at next handed = MatchOption handed (n ≤ at) (λ k. (k ≡ at) × (k < n) × ThreadNext b n X by t k next)
 
 -- the middle that a triple has along an axis; staying takes none
 abbrev pub middle_along : Axis → Triple → ℕ

@@ -13,7 +13,7 @@ use crate::look::{look, parts_of, rest};
 use crate::rows::{above, star_quiet, step_quiet};
 use crate::table::{NUMBERS, lower, number};
 use crate::task::{Ahead, Site, Task};
-use crate::threads::{by_middle, first_from, inverse, next_by, next_from};
+use crate::threads::{Walk, by_middle, inverse};
 use crate::word::word;
 use records::rule::record_of;
 use records::{Axis, Label, Record, Step, TERMS};
@@ -79,7 +79,6 @@ pub fn sweep_axis(
 }
 
 // Each triple of one thread, for the step of record r with this axis and label. The others are known to offer nothing lower.
-// No iterator: the threads of levels and questions stand in a table that their walk writes, and all threads are walked in one form.
 pub fn sweep_thread(
     site: &Site,
     scratch: &[u8],
@@ -96,12 +95,10 @@ pub fn sweep_thread(
     ensures { ThreadSwept site.now.bytes.now site.now.triples scratch.now axis label by term ahead.now.links.now.up ahead.now.links.now.role (goal_of ahead.now.goal) r (pairs numbers.old) (pairs numbers.new) was result }
 {
     let parts = parts_of(axis);
-    let next = next_by(by);
     let mut changed = was;
-    let mut k = first_from(scratch, by, term);
-    while k < site.triples {
+    let mut walk = Walk::new(scratch, by, term);
+    while let Some(k) = walk.next(site, scratch) {
         changed = look(site, k, parts, label, ahead, numbers, r, changed);
-        k = next_from(site, scratch, next, term, k);
     }
     changed
 }

@@ -1,9 +1,10 @@
 // The triples threaded by their terms, in scratch: for each term the first triple with that subject, predicate or object, and for each
 // triple the next with the same predicate and with the same object, none left out. By subject the site is in order: the next is the one after.
-ghost use Rattle.std.specs.Prelude.{◌+◌, ◌<◌, ◌≤◌, ◌≡◌, IfSome, length};
+ghost use Rattle.std.specs.Prelude.{ℕ, ◌+◌, ◌<◌, ◌≤◌, ◌≡◌, Some, IfSome, length};
 ghost use Rattle.records.specs.Rules.{axis_of};
 ghost use Rattle.fewest.specs.Cells.{values, cells};
-ghost use Rattle.fewest.specs.Threads.{object_next, Blank, Headed, ThreadedOne, Threads, ThreadFirst, firsts_of, nexts_of, object_first, ThreadNext, SubjectNext, AtMiddle, AtFinish};
+ghost use Rattle.fewest.specs.Threads.{object_next, Blank, Headed, ThreadedOne, Threads, ThreadFirst, firsts_of, nexts_of, object_first, ThreadNext, SubjectNext, Along, Stepped, AtMiddle, AtFinish};
+ghost use Rattle.std.proofs.Props.{props};
 
 use crate::cells::{CELL, cell, put_cell};
 use crate::table::ENTRIES;
@@ -78,16 +79,12 @@ fn firsts_by(axis: Axis) -> usize
     }
 }
 
-// The first triple by which an axis leads from t, and the first by which it leads to t. No Options: a cell of
-// scratch is not trusted, so what it names is compared with how many triples there are anyway.
+// The first triple by which an axis leads from t. No Option: a cell of scratch is not trusted, so what it names is compared with
+// how many triples there are anyway.
 pub fn first_from(scratch: &[u8], axis: Axis, t: usize) -> usize
     ensures { ThreadFirst scratch.now axis t result }
 {
     cell(scratch, firsts_by(axis) + t % TERMS)
-}
-
-pub fn first_to(scratch: &[u8], axis: Axis, t: usize) -> usize {
-    first_from(scratch, inverse(axis), t)
 }
 
 // An axis and its inverse lead the same triples from and to the other's ends.
@@ -106,7 +103,7 @@ pub fn inverse(axis: Axis) -> Axis
 
 // Where the next triples of an axis's threads stand, of those that lead from a term; nowhere, if the site's order tells them.
 #[tactic(auto, unfolding(crate::specs::Threads::nexts_of, meaning::specs::Limits::terms, meaning::specs::Limits::triples))]
-pub fn next_by(axis: Axis) -> Option<usize>
+fn next_by(axis: Axis) -> Option<usize>
     ensures { (result ≡ nexts_of axis) × IfSome result (λ i. i ≤ object_next) }
 {
     match axis {
@@ -118,8 +115,8 @@ pub fn next_by(axis: Axis) -> Option<usize>
 
 // The next triple after k that leads from t, by where the next ones stand; as many as there are triples where there is none:
 // the same test ends a thread that its first cell ends.
-pub fn next_from(site: &Site, scratch: &[u8], by: Option<usize>, t: usize, k: usize) -> usize
-    requires { (k < site.now.triples) × IfSome by (λ i. i ≤ object_next) }
+fn next_from(site: &Site, scratch: &[u8], by: Option<usize>, t: usize, k: usize) -> usize
+    requires { (k < site.now.triples) × ((p : ℕ) → by ≡ Some p → p ≤ object_next) }
     ensures { ThreadNext site.now.bytes.now site.now.triples scratch.now by t k result }
 {
     match by {
@@ -149,6 +146,40 @@ fn same_subject(site: &Site, t: usize, k: usize) -> usize
         return next;
     }
     site.triples
+}
+
+// A walk along the triples that an axis leads from a term: where its next triples stand, and the one at which it is. The threads stand
+// in scratch, which may change between two steps: the walk does not borrow it.
+#[derive(Clone, Copy)]
+pub struct Walk {
+    by: Option<usize>,
+    term: usize,
+    at: usize,
+    ghost near: { (p : ℕ) → by ≡ Some p → p ≤ object_next } by { Prim.hlevel props },
+}
+
+impl Walk {
+    pub fn new(scratch: &[u8], axis: Axis, t: usize) -> Walk
+        ensures { Along axis t result.by result.term × ThreadFirst scratch.now axis t result.at }
+    {
+        Walk {
+            by: next_by(axis),
+            term: t,
+            at: first_from(scratch, axis, t),
+        }
+    }
+
+    // The triple at which the walk is, and on to the next.
+    pub fn next(&mut self, site: &Site, scratch: &[u8]) -> Option<usize>
+        ensures { (self.new.by ≡ self.old.by) × (self.new.term ≡ self.old.term) × Stepped site.now.bytes.now site.now.triples scratch.now self.old.by self.old.term self.old.at self.new.at result }
+    {
+        let k = self.at;
+        if k < site.triples {
+            self.at = next_from(site, scratch, self.by, self.term, k);
+            return Some(k);
+        }
+        None
+    }
 }
 
 // A triple that has the term as subject or object; the greatest value of a cell where the term is outside the vocabulary.

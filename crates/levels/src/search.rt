@@ -30,7 +30,7 @@ use fewest::look::{Moved, Parts, allows, move_at, parts_of, rest};
 use fewest::sweep::{sweep_axis, sweep_thread};
 use fewest::table::{ENTRIES, NUMBERS, lower, number};
 use fewest::task::{Ahead, Task};
-use fewest::threads::{by_middle, first_to, inverse, next_by, next_from, thread};
+use fewest::threads::{Walk, by_middle, inverse, thread};
 use records::{Axis, Label, NONE, RECORDS, Record, TERMS};
 
 // Staying at a term for record r, where the term stands in a triple.
@@ -283,12 +283,9 @@ fn take_all(
 {
     let site = &step.task.site;
     let parts = parts_of(axis);
-    let by = next_by(inverse(axis));
-    let mut k = first_to(scratch, axis, t);
-    // No iterator: `take` writes the table that holds the threads, which an iterator would have to borrow.
-    while k < site.triples {
+    let mut walk = Walk::new(scratch, inverse(axis), t);
+    while let Some(k) = walk.next(site, scratch) {
         take(step, scratch, numbers, next, one, parts, k);
-        k = next_from(site, scratch, by, t, k);
     }
 }
 

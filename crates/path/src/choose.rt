@@ -17,7 +17,7 @@ use fewest::left::left;
 use fewest::look::{Moved, allows, move_at, parts_of};
 use fewest::table::NUMBERS;
 use fewest::task::{Ahead, Task};
-use fewest::threads::{first_from, next_by, next_from};
+use fewest::threads::Walk;
 use records::rule::record_of;
 use records::{Axis, Label, NONE, RECORDS, Record, Step};
 
@@ -91,16 +91,13 @@ fn by_thread(
 {
     let site = &task.site;
     let parts = parts_of(axis);
-    let by = next_by(axis);
-    let mut k = first_from(scratch, axis, t);
-    // The loop of every walk along a thread: two of the four write the table that they walk, so no iterator would serve them all.
-    while k < site.triples {
+    let mut walk = Walk::new(scratch, axis, t);
+    while let Some(k) = walk.next(site, scratch) {
         let m = move_at(site, k, parts);
         let to = m.to;
         if suits(&task.ahead, numbers, label, r, m, t, d) {
             return Some(Taken { by: r, over: k, to });
         }
-        k = next_from(site, scratch, by, t, k);
     }
     None
 }

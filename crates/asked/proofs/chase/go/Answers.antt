@@ -1,3 +1,4 @@
+use mathlib.Core.Path.{◌∙◌}
 use native.Mathlib.Omega.{arith}
 use Rattle.fewest.specs.Work.{moved_at}
 use Rattle.fewest.proofs.Axes.{axial_inside}
@@ -8,31 +9,42 @@ use Rattle.asked.proofs.chase.go.Goals as goal
 pub loop-k-init : goal.loop-k-init
 loop-k-init g c =
     let (at, _, _) = c.requires in
-    let first = first_along c.args.axis c.args.task.now.site.accepted at.threads at.small c.first_from-k.ensures in
-    (seen_none c.args.axis c.args.task.now.site.accepted first, kept_none _, λ h. (first.own h).1)
+    let (along, begun) = c.new-walk.ensures in
+    let first = first_along c.args.axis c.args.task.now.site.accepted at.threads at.small begun in
+    (along, seen_none c.args.axis c.args.task.now.site.accepted first, kept_none _, λ h. (first.own h).1)
 
 pub term_at-middle-requires : goal.term_at-middle-requires
-term_at-middle-requires g c = let good = c.args.task.now.site.accepted in (omega arith, (axial_inside (_, c.parts_of-parts.ensures)).middle)
+term_at-middle-requires g c =
+    let good = c.args.task.now.site.accepted in
+    let inside = c.in-Some.ensures.2.1 in
+    (omega arith, (axial_inside (_, c.parts_of-parts.ensures)).middle)
 
 pub term_at-to-requires : goal.term_at-to-requires
-term_at-to-requires g c = let good = c.args.task.now.site.accepted in (omega arith, (axial_inside (_, c.parts_of-parts.ensures)).to)
+term_at-to-requires g c =
+    let good = c.args.task.now.site.accepted in
+    let inside = c.in-Some.ensures.2.1 in
+    (omega arith, (axial_inside (_, c.parts_of-parts.ensures)).to)
 
 pub pursue-requires : goal.pursue-requires
 unfolding moved_at
 pursue-requires g c =
     let (at, _, tests) = c.requires in
     let good = c.args.task.now.site.accepted in
-    let are = part_terms c.args.axis good c.parts_of-parts.ensures c.loop-k-test.true in
-    ((seen_bits c.args.axis good at.bits c.loop-k.invariant.0).0, at.row, rw c.label.ensures tests, rw c.term_at-middle.ensures are.middle, rw c.term_at-to.ensures are.to)
+    let are = part_terms c.args.axis good c.parts_of-parts.ensures c.in-Some.ensures.2.1 in
+    ((seen_bits c.args.axis good at.bits c.loop-k.invariant.1).0, at.row, rw c.label.ensures tests, rw c.term_at-middle.ensures are.middle, rw c.term_at-to.ensures are.to)
 
 pub loop-k-preserved : goal.loop-k-preserved
 loop-k-preserved g c =
     let (at, onward, _) = c.requires in
     let good = c.args.task.now.site.accepted in
-    let (seen, kept, starts) = c.loop-k.invariant in
-    let inside = c.loop-k-test.true in
+    let (along, seen-at, kept, starts-at) = c.loop-k.invariant in
+    let (by, term, step) = c.in-Some.ensures in
+    let (here, inside, on) = rw along.1 at step in
+    let seen = rw (← here) at seen-at in
+    let starts = rw (← here) at starts-at in
     let (looked, more) = rw c.label.ensures at c.pursue.ensures in
-    let next = next_along c.args.axis good at.threads (kept_then kept more) c.next_by-by.ensures.0 (starts inside) c.next_from-k.ensures in (
+    let next = next_along c.args.axis good at.threads kept along.0 (starts inside) on in (
+      (by ∙ along.0, term ∙ along.1),
       seen_more c.args.axis good at.small at.marked c.parts_of-parts.ensures inside (starts inside) seen
           (rw (← c.term_at-middle.ensures, ← c.term_at-to.ensures) (looked _ _ onward)) next,
       kept_then kept more,
@@ -41,4 +53,4 @@ loop-k-preserved g c =
 
 pub returns : goal.returns
 returns g c =
-    (seen_all c.args.axis c.args.task.now.site.accepted c.loop-k-test.false c.loop-k.invariant.0, c.loop-k.invariant.1)
+    (seen_all c.args.axis c.args.task.now.site.accepted c.in_default.ensures.2 c.loop-k.invariant.1, c.loop-k.invariant.2)

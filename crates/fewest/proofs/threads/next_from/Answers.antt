@@ -14,8 +14,7 @@ returns-in-None c = record {
 pub overflow_add-place : goal.overflow_add-place
 unfolding terms triples
 overflow_add-place c =
-    let near = rw c.in-Some.is at c.requires.1 in
-    omega (arith, c.args.site.now.accepted.few)
+    omega (arith, c.requires.1 _ c.in-Some.is, c.args.site.now.accepted.few)
 
 pub returns-in-Some : goal.returns-in-Some
 returns-in-Some c = record {

@@ -4,8 +4,8 @@ use Prim.Native.Nat.{◌-◌}
 use Rattle.levels.specs.Levelled.{LevelledFor}
 use Rattle.levels.proofs.search.take_all.Given as goal
 
-abbrev pub invariant-loop-k : goal.invariant-loop-k
-invariant-loop-k l = LevelledFor l.step.task.now l.initial.numbers l.numbers l.initial.scratch l.scratch
+abbrev pub invariant-loop-next : goal.invariant-loop-next
+invariant-loop-next l = LevelledFor l.step.task.now l.initial.numbers l.numbers l.initial.scratch l.scratch
 
-abbrev pub decreases-loop-k : goal.decreases-loop-k
-decreases-loop-k l = l.site.triples - l.k
+abbrev pub decreases-loop-next : goal.decreases-loop-next
+decreases-loop-next l = l.site.triples - l.walk.at
