@@ -8,13 +8,12 @@ use lib.ListN.{length, get_or, take, set, drop_of_length-le}
 use lib.Seq.{length-take-le, take_all, take-suc}
 use Rattle.meaning.specs.Limits.{terms, records}
 use Rattle.fewest.specs.Pairs.{pairs}
-use Rattle.calls.specs.Promise.{as_bytes}
+use Rattle.calls.specs.Promise.{as_bytes, length_in}
 use Rattle.calls.specs.Written.{front}
 use Rattle.calls.proofs.Fronts.{front_more, numbers_long}
 
 -- byte pairs are as many numbers as are lent
-pub pairs_long : (b d : List ℕ) → length b ≡ 16384 → length d ≡ records * terms → length (pairs b) ≡ length d
-unfolding records terms
+pub pairs_long : (b d : List ℕ) → length b ≡ length_in as_bytes (records * terms) → length d ≡ records * terms → length (pairs b) ≡ length d
 pairs_long b d full long = numbers_long as_bytes (records * terms) b full ∙ sym long
 
 module _ (T d : List ℕ) {e : List ℕ} {i : ℕ} (same : length T ≡ length d) (copied : e ≡ front (take i T) d) where
