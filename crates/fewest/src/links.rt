@@ -3,6 +3,7 @@
 // rule by these.
 ghost use Rattle.std.specs.Prelude.{◌≡◌, ◌<◌, Ok, get_or, replicate};
 ghost use Rattle.meaning.specs.Limits.{records};
+ghost use Rattle.records.specs.Bytes.{base};
 ghost use Rattle.records.specs.Rules.{RuleChecked, starts_of, records_of, Front};
 ghost use Rattle.records.specs.First.{taken, Ends};
 ghost use Rattle.fewest.specs.Frame.{links};
@@ -100,7 +101,7 @@ impl Links {
     }
 
     // The expression of record k stands so below this record.
-    fn stand(&mut self, k: usize, above: u8, stands: Role)
+    pub fn stand(&mut self, k: usize, above: u8, stands: Role)
         requires { k < records }
         ensures { self.new ≡ stand k above (role_number stands) self.old }
     {
@@ -112,8 +113,8 @@ impl Links {
     }
 
     // The first operand of the join of record r is this record.
-    fn begin(&mut self, r: usize, operand: usize)
-        requires { (r < records) × (operand < records) }
+    pub fn begin(&mut self, r: usize, operand: usize)
+        requires { (r < records) × (operand < base) }
         ensures { self.new ≡ begin r operand self.old }
     {
         self.of[r].first = operand as u8;

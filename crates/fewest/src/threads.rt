@@ -103,7 +103,7 @@ pub fn inverse(axis: Axis) -> Axis
 
 // Where the next triples of an axis's threads stand, of those that lead from a term; nowhere, if the site's order tells them.
 #[tactic(auto, unfolding(crate::specs::Threads::nexts_of, meaning::specs::Limits::terms, meaning::specs::Limits::triples))]
-fn next_by(axis: Axis) -> Option<usize>
+pub fn next_by(axis: Axis) -> Option<usize>
     ensures { (result ≡ nexts_of axis) × IfSome result (λ i. i ≤ object_next) }
 {
     match axis {
@@ -115,7 +115,7 @@ fn next_by(axis: Axis) -> Option<usize>
 
 // The next triple after k that leads from t, by where the next ones stand; as many as there are triples where there is none:
 // the same test ends a thread that its first cell ends.
-fn next_from(site: &Site, scratch: &[u8], by: Option<usize>, t: usize, k: usize) -> usize
+pub fn next_from(site: &Site, scratch: &[u8], by: Option<usize>, t: usize, k: usize) -> usize
     requires { (k < site.now.triples) × ((p : ℕ) → by ≡ Some p → p ≤ object_next) }
     ensures { ThreadNext site.now.bytes.now site.now.triples scratch.now by t k result }
 {

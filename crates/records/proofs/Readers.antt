@@ -1,12 +1,14 @@
 -- What a site reader hands out is determined; after the end or a refusal it is the same again; and its place tells how many triples it has read.
--- `Begun` goes by the cases of `onward` too, and nothing else does.
+-- Nothing else goes by the cases of `onward`.
 use Prim.Native.Nat.{ℕ, ◌+◌, ◌*◌}
 use native.Mathlib.Omega.{arith}
 use mathlib.Core.Path.{◌≡◌, refl, sym, ◌∙◌, ap}
-use Rattle.records.specs.Sites.{triple_width, SiteFound}
-use Rattle.records.specs.Reader.{onward, Hands}
+use mathlib.Core.List.{List}
+use Rattle.records.specs.Sites.{triple_width, SiteFound, site_record_at}
+use Rattle.records.specs.Reader.{onward, handed, Hands}
 use Rattle.records.specs.declared.Triple.{Triple}
 use Rattle.std.specs.Prelude.{Some, None, Ok, Err}
+use Rattle.records.specs.declared.site.Handed.{Handed}
 use Rattle.records.specs.declared.site.SiteReader.{SiteReader}
 
 -- it is the end or a refusal
@@ -18,6 +20,13 @@ stays : (found : SiteFound) {at : ℕ} → Last found → onward found at ≡ at
 stays (Ok (Some x)) last = absurd (last x refl)
 stays (Ok None) last = refl
 stays (Err f) last = refl
+
+-- what was handed out stood there, and the place after a triple is past it
+pub stood : (s : List ℕ) (at : ℕ) (r : Handed) → r ≡ handed s at → site_record_at s at ≡ r.found
+stood s at r e = sym (ap (λ (y : Handed). y.found) e)
+
+pub went_on : {x : Triple} (s : List ℕ) (at : ℕ) (r : Handed) → r ≡ handed s at → r.found ≡ Ok (Some x) → r.at ≡ at + triple_width
+went_on s at r e read = ap (λ (y : Handed). y.at) e ∙ ap (λ (y : SiteFound). onward y at) (stood s at r e ∙ read)
 
 -- Two results that a reader may give are equal, and so are the readers afterwards.
 pub hands_unique : {r a b : SiteReader} {x y : SiteFound} → Hands r x a → Hands r y b → (x ≡ y) × (a ≡ b)

@@ -37,9 +37,9 @@ fn length_of(kind: usize) -> usize
     }
 }
 
-// The axis with this number, none for self. Of a number that no axis has it is some axis.
+// The axis with this number, none for self; the last one for a number that no axis has.
 #[tactic(auto, unfolding(crate::specs::Rules::axis_coded))]
-fn axis_coded(number: usize) -> Option<Axis>
+pub fn axis_coded(number: usize) -> Option<Axis>
     ensures { result ≡ axis_coded number }
 {
     match number {
@@ -90,7 +90,7 @@ pub fn record_of(rule: &[u8], starts: &[u8; RECORDS], r: usize) -> Record
 
 // The number of the axis of the record at this place; 0 where its kind has none. A refusal goes by it, before there is an axis.
 #[tactic(auto, unfolding(crate::specs::Rules::axis_at))]
-fn axis_at(rule: &[u8], at: usize) -> usize
+pub fn axis_at(rule: &[u8], at: usize) -> usize
     ensures { result ≡ axis_at rule.now at }
 {
     match byte_after(rule, at, 0) {

@@ -189,14 +189,16 @@ fn plain_until(site: &[u8]) -> usize
     at
 }
 
-// All of a site: how many triples it has, or its first refusal. The reader begins where the records are not plainly sound.
+// All of a site: how many triples it has, or its first refusal. Reading begins where the records are not plainly sound.
 pub fn check_site(site: &[u8]) -> Result<usize, Refusal>
     ensures { Checked site.now result }
 {
-    let mut reader = SiteReader::new(site, plain_until(site));
+    let mut at = plain_until(site);
     loop {
-        let Some(_) = reader.next()? else {
-            return Ok(reader.at / TRIPLE_WIDTH);
+        let step = read_at(site, at);
+        let Some(_) = step.found? else {
+            return Ok(at / TRIPLE_WIDTH);
         };
+        at = step.at;
     }
 }

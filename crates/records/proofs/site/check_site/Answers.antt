@@ -1,22 +1,26 @@
-use mathlib.Core.Path.{refl}
+use mathlib.Core.Path.{◌∙◌}
 use native.Mathlib.Omega.{arith}
 use Rattle.std.proofs.lemmas.Result.{err_from_is_err_and}
-use Rattle.records.proofs.Begun.{passes, ends_here, refused_here}
+use Rattle.records.proofs.SiteRecord.{whole}
+use Rattle.records.proofs.Readers.{stood, went_on}
+use Rattle.records.proofs.Begun.{begun_on, begun_ended, begun_denied}
 use Rattle.records.proofs.site.check_site.Goals as goal
 
-pub returns-in_err-next : goal.returns-in_err-next
-returns-in_err-next c =
+pub returns-in_err-step : goal.returns-in_err-step
+returns-in_err-step c =
     let p = err_from_is_err_and c.from_residual.result c.from_residual.ensures.1 in
-    rw (p.1, p.2) (refused_here c.loop.invariant c.in_err-next.ensures)
-
-pub loop-init : goal.loop-init
-loop-init c = rw c.new-reader.ensures (record { bytes = refl; begun = c.plain_until.ensures })
-
-pub loop-smaller : goal.loop-smaller
-loop-smaller c = omega (arith, passes c.loop.invariant (rw c.in-Some.is at c.in_ok-next.ensures))
-
-pub loop-preserved : goal.loop-preserved
-loop-preserved c = (passes c.loop.invariant (rw c.in-Some.is at c.in_ok-next.ensures)).2
+    rw (p.1, p.2) (begun_denied _ _ c.loop-at.invariant (stood _ _ _ c.read_at-step.ensures ∙ c.in_err-step.was))
 
 pub returns-in_default : goal.returns-in_default
-returns-in_default c = ends_here c.loop.invariant (rw c.in_default.is at c.in_ok-next.ensures)
+returns-in_default c = begun_ended _ _ c.loop-at.invariant (stood _ _ _ c.read_at-step.ensures ∙ rw c.in_default.is at c.in_ok-step.was)
+
+pub loop-at-smaller : goal.loop-at-smaller
+loop-at-smaller c =
+    let read = rw c.in-Some.is at c.in_ok-step.was in
+    let past = went_on _ _ _ c.read_at-step.ensures read in
+    omega (arith, past, whole _ _ (stood _ _ _ c.read_at-step.ensures ∙ read))
+
+pub loop-at-preserved : goal.loop-at-preserved
+loop-at-preserved c =
+    let read = rw c.in-Some.is at c.in_ok-step.was in
+    begun_on _ _ _ c.loop-at.invariant (stood _ _ _ c.read_at-step.ensures ∙ read) (went_on _ _ _ c.read_at-step.ensures read)

@@ -1,5 +1,6 @@
 -- `fewest::links::Links::link_join` meets its contract: both operands end before the join.
 use native.Mathlib.Omega.{arith}
+use Rattle.meaning.specs.Limits.{records}
 use Rattle.records.specs.Rules.{records_of}
 use Rattle.fewest.proofs.Operands.{ends_inside, Join, join_operands, joined}
 use Rattle.fewest.proofs.links.Links.link_join.Goals as goal
@@ -23,6 +24,7 @@ pub entry-own-requires : goal.entry-own-requires
 entry-own-requires c = ends_inside _ c.requires.1
 
 pub begin-requires : goal.begin-requires
+unfolding records
 begin-requires c =
     (ends_inside _ c.requires.1, omega (arith, found (goal.at.begin-requires c).After-first_record-operand, ends_inside _ c.requires.1))
 
