@@ -20,7 +20,7 @@ use Rattle.fewest.proofs.Places.{place_below, view_set_same, view_set_other}
 use Rattle.asked.specs.Words.{size, bit, marks_at}
 use Rattle.asked.specs.Mark.{marks, begun}
 use Rattle.asked.specs.Serve.{markeds, NoneWaits, Kept, SetMarked}
-use Rattle.asked.specs.Seek.{Bits, MarkedOver}
+use Rattle.asked.specs.Seek.{Whole, Bits, MarkedOver}
 use Rattle.asked.specs.Chase.{Answered, Chased}
 use Rattle.asked.specs.Narrow.{Cleared}
 use Rattle.asked.proofs.WordBits.{same_views, length-questions, view_questions, no_word, bit_none, bit_own, bit_other}
@@ -32,6 +32,13 @@ use Rattle.asked.proofs.Serving.{served_marked, mark_of}
 no_view : (r t : ℕ) → view (replicate (records * terms) 0) r t ≡ 0
 unfolding view
 no_view r t = zeros (records * terms) (place r t)
+
+-- Rows of zeros from the first on are a table of zeros.
+pub all_cleared : {b d : List ℕ} → Whole b → Cleared 0 (records - 0) b d → d ≡ replicate (records * terms) 0
+unfolding Whole view terms
+all_cleared {b} {d} whole cleared = same_views d (replicate (records * terms) 0) (cleared.long ∙ whole) (length-replicate (records * terms) 0) λ r t h k.
+    let on : place r t ≡ 0 * terms + r * terms + t = omega arith in
+    ap (λ i. get_or d i 0) on ∙ cleared.there r t (omega arith) k ∙ sym (no_view r t)
 
 -- Rows of zeros from that of the words on have no mark, and keep the threads.
 module _ (n : ℕ) {b d : List ℕ} (cleared : Cleared n (records - n) b d) (first : n * terms ≡ marks_at) where

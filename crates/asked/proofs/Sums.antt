@@ -4,7 +4,8 @@ use mathlib.Core.Path.{◌≡◌, refl, sym, ◌∙◌}
 use mathlib.Core.List.{List, [], ◌∷◌, ◌++◌}
 use native.Mathlib.Omega.{arith}
 use Rattle.std.proofs.Math.Numerals.{add-one}
-use lib.ListN.{length, get_or, take}
+use lib.ListN.{length, get_or, take, drop}
+use Rattle.std.proofs.lemmas.List.{take-append-drop}
 use Rattle.meaning.specs.Limits.{terms, records}
 use Rattle.meaning.proofs.Counting.{total, total_rows}
 use Rattle.fewest.specs.Offer.{view}
@@ -36,6 +37,10 @@ sum_none b = refl
 
 pub sum_more : (b : List ℕ) (i : ℕ) → i < length b → sum (take (i + 1) b) ≡ sum (take i b) + get_or b i 0
 sum_more b i h = rw add-one (entry_more b i h)
+
+-- What is taken from the front and what is left are the whole.
+pub cut : {l a b : List ℕ} (n : ℕ) → a ≡ take n l → b ≡ drop n l → l ≡ a ++ b
+cut {l} n front back = rw (front, back) (sym (take-append-drop n l))
 
 -- Of two parts, one behind the other.
 pub sum_parts : (a b : List ℕ) → sum (a ++ b) ≡ sum a + sum b

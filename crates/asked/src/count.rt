@@ -20,14 +20,16 @@ fn count_part(ones: &[u8]) -> u8
     n
 }
 
-// The number of ones: part by part, the last one shorter where they do not go up.
+// The number of ones: whole parts, then the rest. No `chunks`: of a part whose length is known the compiler takes many entries at once.
 pub fn count(table: &[u8]) -> usize
     requires { Bits table.now }
     ensures { result ≡ sum table.now }
 {
+    let mut left = table;
     let mut n = 0;
-    for ones in table.chunks(PART) {
+    while let Some((ones, rest)) = left.split_first_chunk::<PART>() {
         n += usize::from(count_part(ones));
+        left = rest;
     }
-    n
+    n + usize::from(count_part(left))
 }

@@ -18,11 +18,11 @@ use records::TERMS;
 // The first row of those that the words take.
 const WORDS: usize = MARKS / TERMS;
 
-// The byte table is filled with 0.
+// The byte table is filled with 0, row by row.
 pub fn clear(asked: &mut [u8; ENTRIES])
     ensures { asked.new ≡ replicate (records * terms) 0 }
 {
-    asked.fill(0);
+    clear_rows(asked, 0)
 }
 
 // No question is marked or waits; the threads are kept.

@@ -1,9 +1,7 @@
--- `calls::write::copy_back` meets its contract. The loop's invariant: the numbers before the index are copied.
-use mathlib.Core.Path.{◌≡◌}
-use lib.ListN.{take}
+-- `calls::write::copy_back` meets its contract. The loop's invariant: the rows before `r` are copied.
 use Rattle.fewest.specs.Pairs.{pairs}
-use Rattle.calls.specs.Written.{front}
+use Rattle.calls.proofs.Copying.{RowsCopied}
 use Rattle.calls.proofs.write.copy_back.Given as goal
 
-abbrev pub invariant-loop-i : goal.invariant-loop-i
-invariant-loop-i l = l.numbers ≡ front (take l.i (pairs l.bytes)) l.initial.numbers
+abbrev pub invariant-loop-r : goal.invariant-loop-r
+invariant-loop-r l = RowsCopied (pairs l.bytes) l.initial.numbers l.r l.numbers
