@@ -15,10 +15,10 @@ field_long n mark = length-append (decimal n) (mark ∷ [])
 
 -- a number of 64 bits, and one of 16
 pub field_most : (n mark : ℕ) → n < 2 ^ 64 → length (field n mark) ≤ 21
-field_most n mark h = omega (arith, field_long n mark, decimal_few 20 n (omega arith) (omega arith) h)
+field_most n mark h = omega (arith, field_long n mark, decimal_few 19 n (omega arith))
 
 pub field_few : (n mark : ℕ) → n < 2 ^ 16 → length (field n mark) ≤ 6
-field_few n mark h = omega (arith, field_long n mark, decimal_few 5 n (omega arith) (omega arith) (omega arith))
+field_few n mark h = omega (arith, field_long n mark, decimal_few 4 n (omega arith))
 
 -- the word of an answer
 pub word_few : (related : Bool) → length (answer_word related) ≤ 4
